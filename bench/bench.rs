@@ -1,0 +1,123 @@
+//! Ours, the Rust and (under `--cfg bearssl`) BearSSL in one process on the same inputs: bench RUNS.
+//!
+//! 64-bit words, 4,096 blocks a run, the key expanded before; the contestants take turns, and the best of all runs
+//! counts. A run of expansion expands 1,024 keys. Before any clock starts, all must give the same bytes.
+use rust_aes::{Random, Width, words};
+use std::hint::black_box;
+use std::time::Instant;
+
+const BYTES: usize = 16 * 4096;
+const BATCH: usize = 64;
+const KEYS: usize = 1024;
+
+unsafe extern "C" {
+    fn locker_aes_expand64(k: *const u8, kn: usize, s: *mut u64, sn: usize) -> u32;
+    fn locker_aes_encrypt64(s: *const u64, sn: usize, i: *const u8, n: usize, o: *mut u8, on: usize) -> u32;
+    fn locker_aes_decrypt64(s: *const u64, sn: usize, i: *const u8, n: usize, o: *mut u8, on: usize) -> u32;
+    #[cfg(bearssl)]
+    fn bear_expand(k: *const u8, kn: usize, s: *mut u64);
+    #[cfg(bearssl)]
+    fn bear_crypt(direction: u32, s: *const u64, sn: usize, i: *const u8, o: *mut u8);
+}
+
+/// A contestant: a key to a schedule, and all of the input to the output in a direction under a schedule of its own.
+struct Contestant {
+    name: &'static str,
+    expand: fn(&[u8], &mut [u64]),
+    crypt: fn(u32, &[u64], &[u8], &mut [u8]),
+}
+
+fn batches<'a>(input: &'a [u8], output: &'a mut [u8]) -> impl Iterator<Item = (&'a [u8], &'a mut [u8])> {
+    input.chunks_exact(BATCH).zip(output.chunks_exact_mut(BATCH))
+}
+
+const CONTESTANTS: &[Contestant] = &[
+    Contestant {
+        name: "Rust",
+        expand: u64::expand,
+        crypt: |direction, schedule, input, output| match direction {
+            0 => batches(input, output).for_each(|(i, o)| u64::crypt(0, schedule, i, o)),
+            _ => batches(input, output).for_each(|(i, o)| u64::crypt(1, schedule, i, o)),
+        },
+    },
+    Contestant {
+        name: "ours",
+        expand: |key, schedule| {
+            let answer = unsafe { locker_aes_expand64(key.as_ptr(), key.len(), schedule.as_mut_ptr(), schedule.len()) };
+            assert_eq!(answer, 0);
+        },
+        crypt: |direction, schedule, input, output| {
+            let call = if direction == 0 { locker_aes_encrypt64 } else { locker_aes_decrypt64 };
+            let (s, n) = (schedule.as_ptr(), schedule.len());
+            for (i, o) in batches(input, output) {
+                let answer = unsafe { call(s, n, i.as_ptr(), BATCH, o.as_mut_ptr(), BATCH) };
+                assert_eq!(answer, 0);
+            }
+        },
+    },
+    #[cfg(bearssl)]
+    Contestant {
+        name: "BearSSL",
+        expand: |key, schedule| unsafe { bear_expand(key.as_ptr(), key.len(), schedule.as_mut_ptr()) },
+        crypt: |direction, schedule, input, output| {
+            for (i, o) in batches(input, output) {
+                unsafe { bear_crypt(direction, schedule.as_ptr(), schedule.len(), i.as_ptr(), o.as_mut_ptr()) }
+            }
+        },
+    },
+];
+
+/// The best time of one run of each, in ns, taken in turns.
+fn best(runs: u32, mut run: impl FnMut(&Contestant)) -> Vec<f64> {
+    let mut best = vec![f64::MAX; CONTESTANTS.len()];
+    for _ in 0..runs {
+        for (c, best) in CONTESTANTS.iter().zip(&mut best) {
+            let start = Instant::now();
+            run(c);
+            *best = best.min(start.elapsed().as_nanos() as f64);
+        }
+    }
+    best
+}
+
+fn row(name: &str, unit: &str, count: usize, best: Vec<f64>) {
+    print!("{name:<20} {unit:<8}");
+    best.iter().for_each(|ns| print!(" {:>10.2}", ns / count as f64));
+    println!(" {:>10.3}", best[1] / best[0]);
+}
+
+fn main() {
+    let runs: u32 = std::env::args().nth(1).map_or(300, |a| a.parse().expect("RUNS, decimal"));
+    let mut random = Random(1);
+    let (mut input, mut output, mut keys) = (vec![0u8; BYTES], vec![0u8; BYTES], vec![0u8; 32 * KEYS]);
+    random.fill(&mut input);
+    random.fill(&mut keys);
+
+    print!("{:<20} {:<8}", "best of runs, ns", "for a");
+    CONTESTANTS.iter().for_each(|c| print!(" {:>10}", c.name));
+    println!(" {:>10}", "ours/Rust");
+    for key_len in [16, 32] {
+        let key = &keys[..key_len];
+        let mut schedules = vec![vec![0u64; words(key_len)]; CONTESTANTS.len()];
+        CONTESTANTS.iter().zip(&mut schedules).for_each(|(c, s)| (c.expand)(key, s));
+        assert!(schedules[0] == schedules[1], "the schedules differ");
+        let own = |c: &Contestant| &schedules[CONTESTANTS.iter().position(|d| d.name == c.name).unwrap()][..];
+
+        for (direction, what) in [(0, "encrypt"), (1, "decrypt")] {
+            let answers = CONTESTANTS.iter().map(|c| {
+                (c.crypt)(direction, own(c), &input, &mut output);
+                output.clone()
+            });
+            let answers: Vec<_> = answers.collect();
+            assert!(answers.iter().all(|a| *a == answers[0]), "the answers differ");
+            let best = best(runs, |c| (c.crypt)(direction, own(c), black_box(&input), black_box(&mut output)));
+            row(&format!("AES-{} {what}", 8 * key_len), "block", BYTES / 16, best);
+        }
+        let mut schedule = vec![0u64; words(key_len)];
+        let best = best(runs, |c| {
+            keys.chunks_exact(32).for_each(|k| (c.expand)(black_box(&k[..key_len]), black_box(&mut schedule)));
+        });
+        row(&format!("AES-{} expand", 8 * key_len), "key", KEYS, best);
+    }
+    println!("ok bench: {runs} interleaved runs of each, the same bytes from all {}", CONTESTANTS.len());
+}

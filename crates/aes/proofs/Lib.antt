@@ -1,0 +1,3 @@
+pub mod Answers
+pub mod Theorems
+pub mod Wrong

@@ -1,0 +1,2 @@
+pub mod Fixslice
+pub mod Batch

@@ -1,0 +1,3 @@
+// aes128.rs and aes256.rs of the Rust: encryption and decryption of a full batch, over the number of rounds.
+pub mod w32;
+pub mod w64;

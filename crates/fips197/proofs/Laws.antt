@@ -1,0 +1,108 @@
+-- The transformations: what undoes what, what commutes, and what distributes. Each linear law is one computed test. Assumes nothing.
+use mathlib.Core.Path.{_≡_, refl, sym, ap, ap₂, _∙_}
+use mathlib.Core.List.{List, [], _∷_, _++_, map}
+use Prim.Native.Nat.{ℕ, zero, suc, _+_, _-_, _*_, _/_, _%_, _^_, _≤_, _<_, suc-le-suc}
+use lib.Bits.{bitXor}
+use lib.Dec.{T, lit≤}
+use lib.ListN.{getD, length}
+use Rattle.fips197.specs.Aes.{Fit, Block, block, xtime, product, sbox, invSbox, subBytes, invSubBytes, shiftRows, invShiftRows, mixColumns, invMixColumns, addRoundKey}
+use Rattle.fips197.proofs.Linear.{Related, numbers, valueOf, inputs, same, agree}
+use Rattle.fips197.proofs.Layers.{Bytes, related8, blockOf, shiftRowsOf, invShiftRowsOf, mixColumnsOf, invMixColumnsOf, addRoundKeyOf}
+use Rattle.fips197.proofs.Tables.{invSbox-sbox, sbox-invSbox}
+use Rattle.fips197.proofs.Blocks.{reads, block-is, fit-tail, fit-append, fit-reads}
+
+-- two layers over n bytes, and the test whether they are the same
+abbrev pub Layer : Type 1
+Layer = (A : Type 0) → Bytes A → List A → List A
+
+module _ (n : ℕ) (F G : Layer) (ws : List ℕ) (fit : Fit 8 ws) where
+  abbrev pub run : Layer → List (Related (valueOf ws))
+  run H = H (Related (valueOf ws)) (related8 ws) (inputs 8 (lit≤ tt) ws fit 0 n)
+
+  pub layers : T (same (valueOf ws) (run F) (run G)) → numbers (valueOf ws) (run F) ≡ numbers (valueOf ws) (run G)
+  layers t = agree (valueOf ws) (run F) (run G) t
+
+-- ---- what undoes what
+map-undone : (f g : ℕ → ℕ) → ((x : ℕ) → x < 2 ^ 8 → g (f x) ≡ x) → (l : List ℕ) → Fit 8 l → map g (map f l) ≡ l
+map-undone f g h [] b = refl
+map-undone f g h (x ∷ xs) b = ap₂ _∷_ (h x (b .at 0)) (map-undone f g h xs (fit-tail b))
+
+module _ {s : List ℕ} (b : Block s) where
+  pub invSub-sub : invSubBytes (subBytes s) ≡ s
+  unfolding subBytes invSubBytes
+  invSub-sub = map-undone sbox invSbox invSbox-sbox s (b .bytes)
+
+  pub sub-invSub : subBytes (invSubBytes s) ≡ s
+  unfolding subBytes invSubBytes
+  sub-invSub = map-undone invSbox sbox sbox-invSbox s (b .bytes)
+
+  pub invShift-shift : invShiftRows (shiftRows s) ≡ s
+  unfolding shiftRows invShiftRows
+  invShift-shift = block-is b
+
+  pub shift-invShift : shiftRows (invShiftRows s) ≡ s
+  unfolding shiftRows invShiftRows
+  shift-invShift = block-is b
+
+  -- ShiftRows four times is nothing
+  pub shift-four : shiftRows (shiftRows (shiftRows (shiftRows s))) ≡ s
+  unfolding shiftRows
+  shift-four = block-is b
+
+  pub invMix-mix : invMixColumns (mixColumns s) ≡ s
+  unfolding mixColumns invMixColumns product xtime
+  invMix-mix = layers 16 (λ A o l. invMixColumnsOf o (mixColumnsOf o l)) (λ A o l. l) s (b .bytes) tt ∙ block-is b
+
+  pub mix-invMix : mixColumns (invMixColumns s) ≡ s
+  unfolding mixColumns invMixColumns product xtime
+  mix-invMix = layers 16 (λ A o l. mixColumnsOf o (invMixColumnsOf o l)) (λ A o l. l) s (b .bytes) tt ∙ block-is b
+
+  -- SubBytes commutes with ShiftRows
+  pub sub-shift : subBytes (shiftRows s) ≡ shiftRows (subBytes s)
+  unfolding subBytes shiftRows
+  sub-shift = ap (λ (l : List ℕ). shiftRows (map sbox l)) (block-is b)
+
+  pub invSub-invShift : invSubBytes (invShiftRows s) ≡ invShiftRows (invSubBytes s)
+  unfolding invSubBytes invShiftRows
+  invSub-invShift = ap (λ (l : List ℕ). invShiftRows (map invSbox l)) (block-is b)
+
+-- ---- what distributes over the sum. The two blocks stand one after the other, sixteen and sixteen
+abbrev front : {A : Type 0} → Bytes A → List A → List A
+front o l = blockOf o (λ r c. getD l (r + 4 * c) (o .null))
+
+abbrev back : {A : Type 0} → Bytes A → List A → List A
+back o l = blockOf o (λ r c. getD l (16 + (r + 4 * c)) (o .null))
+
+module _ {s t : List ℕ} (b : Block s) (d : Block t) where
+  pair : List ℕ
+  pair = reads 0 16 s ++ reads 0 16 t
+
+  pair-fits : Fit 8 pair
+  unfolding pair
+  pair-fits = fit-append (fit-reads 0 16 (b .bytes)) (fit-reads 0 16 (d .bytes))
+
+  pub mix-add : mixColumns (addRoundKey s t) ≡ addRoundKey (mixColumns s) (mixColumns t)
+  unfolding mixColumns addRoundKey product xtime pair
+  mix-add = layers 32 (λ A o l. mixColumnsOf o (addRoundKeyOf o (front o l) (back o l))) (λ A o l. addRoundKeyOf o (mixColumnsOf o (front o l)) (mixColumnsOf o (back o l))) pair pair-fits tt
+
+  pub invMix-add : invMixColumns (addRoundKey s t) ≡ addRoundKey (invMixColumns s) (invMixColumns t)
+  unfolding invMixColumns addRoundKey product xtime pair
+  invMix-add = layers 32 (λ A o l. invMixColumnsOf o (addRoundKeyOf o (front o l) (back o l))) (λ A o l. addRoundKeyOf o (invMixColumnsOf o (front o l)) (invMixColumnsOf o (back o l))) pair pair-fits tt
+
+  pub shift-add : shiftRows (addRoundKey s t) ≡ addRoundKey (shiftRows s) (shiftRows t)
+  unfolding shiftRows addRoundKey
+  shift-add = refl
+
+  pub invShift-add : invShiftRows (addRoundKey s t) ≡ addRoundKey (invShiftRows s) (invShiftRows t)
+  unfolding invShiftRows addRoundKey
+  invShift-add = refl
+
+  -- a round key added twice is nothing
+  pub add-add : addRoundKey (addRoundKey s t) t ≡ s
+  unfolding addRoundKey pair
+  add-add = layers 32 (λ A o l. addRoundKeyOf o (addRoundKeyOf o (front o l) (back o l)) (back o l)) (λ A o l. front o l) pair pair-fits tt ∙ block-is b
+
+-- MixColumns leaves columns of equal bytes as they are: xs has the byte of each column
+pub mix-equal : (xs : List ℕ) → Fit 8 xs → mixColumns (block (λ r c. getD xs c 0)) ≡ block (λ r c. getD xs c 0)
+unfolding mixColumns product xtime
+mix-equal xs fit = layers 4 (λ A o l. mixColumnsOf o (blockOf o (λ r c. getD l c (o .null)))) (λ A o l. blockOf o (λ r c. getD l c (o .null))) xs fit tt

@@ -1,0 +1,1 @@
+// Definitions and laws only: see specs/Aes.antt and proofs/.

@@ -1,0 +1,9 @@
+-- leaves first
+pub mod Check
+pub mod Linear
+pub mod Packing
+pub mod Circuits
+pub mod SubBytes
+pub mod Machine
+pub mod Calls
+pub mod Parts

@@ -1,0 +1,4 @@
+pub mod Layout
+pub mod Leaves
+pub mod Schedule
+pub mod Programs

@@ -1,0 +1,4 @@
+// mix_columns.rs of the Rust: MixColumns in the fixsliced representation, and its inverse, at each width.
+// The Rust has a function for each number of rounds modulo 4; here that number, the form, is a parameter.
+pub mod w32;
+pub mod w64;

@@ -1,0 +1,13 @@
+-- The gates are the circuit of `Circuits`, by computation; what the circuit does is `invSub-law`. Assumes nothing.
+use borrow.Author.Needs.{needs}
+use Rattle.lanes.specs.Layout.{w32}
+use Rattle.lanes.proofs.SubBytes.{invSubWords, invSub-law}
+use Rattle.sbox.proofs.w32.inv_sub_bytes.Statement.{statement}
+use Rattle.sbox.proofs.w32.inv_sub_bytes.Tie as tie
+
+returns : tie.Need-returns
+unfolding invSubWords
+returns c = invSub-law w32 (c .args .t1)
+
+pub inv-sub-bytes-spec : {M : Type 1} → statement M
+inv-sub-bytes-spec = tie.close (tie.spec (λ c. search needs) (λ c. search needs) (λ c. search needs) (λ c. search needs) (λ c. search needs) (λ c. search needs) (λ c. search needs) (λ c. search needs) returns)

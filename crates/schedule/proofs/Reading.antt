@@ -1,0 +1,160 @@
+-- Reading a schedule undoes writing it, round key by round key; so the schedule of a key reads as FIPS-197's round keys in every slot, and no
+-- other words of the width do: unpacking loses nothing, and neither does the rule of a round key. Assumes nothing.
+use mathlib.Core.Path.{_≡_, refl, sym, ap, ap₂, _∙_}
+use mathlib.Core.Bool.{Bool, true, false}
+use mathlib.Core.List.{List, [], _∷_, map}
+use Prim.Native.Nat.{ℕ, zero, suc, _+_, _*_, _%_, _≤_, _<_}
+use native.Mathlib.Nat.{zero-add, zero-lt-suc, mod-lt}
+use native.Mathlib.Omega.{arith}
+use lib.Dec.{eqb}
+use lib.ListN.{getD, drop, length}
+use Rattle.fips197.specs.Aes.{range, Fit, Block, choose, sixteen, roundsFor, keyWords, keyExpansion}
+use Rattle.fips197.proofs.Blocks.{fit-take, fit-drop}
+use Rattle.fips197.proofs.Ciphers.{Blocks, none, more}
+use Rattle.fips197.proofs.Keys.{key-at, key-block, expansion-one}
+use Rattle.lanes.specs.Layout.{Width, w32, w64, bits, slots, slot, pack, eachSlot}
+use Rattle.lanes.specs.Leaves.{add63, rowsShifted, rowsUnshifted}
+use Rattle.lanes.specs.Schedule.{wordsAt, stored, readKey, reading, writeKey, scheduleOf}
+use Rattle.lanes.proofs.Packing.{slot-pack, slots-one, pack-length, pack-fits, slot-block}
+use Rattle.lanes.proofs.Parts.{words-length}
+use Rattle.schedule.proofs.Rows.{add63-block, shifted-block, unshifted-block, add63-twice, shifted-unshifted, unshifted-shifted}
+use Rattle.schedule.proofs.Eights.{parts-length, parts-fit, parts-at, eights-one}
+
+-- ---- one round key
+-- both ways of the rule, by the test whether it is the last key
+pick : (t : Bool) (P : List ℕ → Type 0) {v u : List ℕ} → P v → P u → P (choose t v u)
+pick true P p q = p
+pick false P p q = q
+
+choose-choose : (t : Bool) (f g h k : List ℕ → List ℕ) (s : List ℕ) → f (h s) ≡ s → g (k s) ≡ s → choose t (f (choose t (h s) (k s))) (g (choose t (h s) (k s))) ≡ s
+choose-choose true f g h k s p q = p
+choose-choose false f g h k s p q = q
+
+module _ (n : ℕ) where
+  pub read-block : (r : ℕ) {k : List ℕ} → Block k → Block (readKey n r k)
+  unfolding readKey
+  read-block zero b = b
+  read-block (suc r) b = pick (eqb (suc r) n) Block (add63-block b) (shifted-block (suc r % 4) (add63-block b))
+
+  pub write-block : (r : ℕ) {k : List ℕ} → Block k → Block (writeKey n r k)
+  unfolding writeKey
+  write-block zero b = b
+  write-block (suc r) b = pick (eqb (suc r) n) Block (add63-block b) (add63-block (unshifted-block (suc r % 4) b))
+
+  pub read-write : (r : ℕ) {k : List ℕ} → Block k → readKey n r (writeKey n r k) ≡ k
+  unfolding readKey writeKey
+  read-write zero b = refl
+  read-write (suc r) {k} b =
+      let j : ℕ = suc r % 4 in
+      choose-choose (eqb (suc r) n) add63 (λ s. rowsShifted j (add63 s)) add63 (λ s. add63 (rowsUnshifted j s)) k (add63-twice k)
+      (ap (rowsShifted j) (add63-twice (rowsUnshifted j k)) ∙ shifted-unshifted b j (mod-lt (suc r) (zero-lt-suc 3)))
+
+  pub write-read : (r : ℕ) {k : List ℕ} → Block k → writeKey n r (readKey n r k) ≡ k
+  unfolding readKey writeKey
+  write-read zero b = refl
+  write-read (suc r) {k} b =
+      let j : ℕ = suc r % 4 in
+      choose-choose (eqb (suc r) n) add63 (λ s. add63 (rowsUnshifted j s)) add63 (λ s. rowsShifted j (add63 s)) k (add63-twice k)
+      (ap add63 (unshifted-shifted (add63-block b) j (mod-lt (suc r) (zero-lt-suc 3))) ∙ add63-twice k)
+
+-- ---- a list of round keys
+map-same : {A : Type 0} (f g : ℕ → A) (n i : ℕ) → ((r : ℕ) → r < i + n → f r ≡ g r) → map f (range i n) ≡ map g (range i n)
+map-same f g zero i h = refl
+map-same f g (suc n) i h = ap₂ _∷_ (h i (omega arith)) (map-same f g n (suc i) (λ r k. h r (omega arith)))
+
+map-at : {A : Type 0} (f : ℕ → A) (d : A) (n i r : ℕ) → r < n → getD (map f (range i n)) r d ≡ f (i + r)
+map-at f d zero i r h = absurd (omega arith)
+map-at f d (suc n) i zero h = let e : i ≡ i + 0 = omega arith in ap f e
+map-at f d (suc n) i (suc r) h = let e : suc i + r ≡ i + suc r = omega arith in map-at f d n (suc i) r (omega arith) ∙ ap f e
+
+pub reading-at : (w : Width) (n : ℕ) (l : List ℕ) (b r : ℕ) → r < n + 1 → getD (reading w n l b) r [] ≡ readKey n r (stored w l b r)
+unfolding reading
+reading-at w n l b r h = map-at (λ r. readKey n r (stored w l b r)) [] (n + 1) 0 r h ∙ ap (λ (r : ℕ). readKey n r (stored w l b r)) (zero-add r)
+
+pub stored-block : (w : Width) (l : List ℕ) (b r : ℕ) → Block (stored w l b r)
+unfolding stored
+stored-block w l b r = slot-block w (wordsAt l (8 * r)) b
+
+-- any words read as blocks
+pub reading-blocks : (w : Width) (n : ℕ) (l : List ℕ) (b : ℕ) → Blocks (reading w n l b)
+unfolding reading
+reading-blocks w n l b = go (n + 1) 0
+  where
+    go : (k i : ℕ) → Blocks (map (λ r. readKey n r (stored w l b r)) (range i k))
+    go zero i = none
+    go (suc k) i = more (read-block n i (stored-block w l b i)) (go k (suc i))
+
+-- ---- the reading loses nothing
+words-fit : {W : ℕ} (l : List ℕ) (at : ℕ) → Fit W l → Fit W (wordsAt l at)
+unfolding wordsAt
+words-fit l at f = fit-take 8 (drop at l) (fit-drop at l f)
+
+-- words of the width with the same round keys in every slot are the same
+pub stored-one : (w : Width) (n : ℕ) (l m : List ℕ) → length l ≡ 8 * n → Fit (bits w) l → length m ≡ 8 * n → Fit (bits w) m
+    → ((b : ℕ) → b < slots w → (r : ℕ) → r < n → stored w l b r ≡ stored w m b r) → l ≡ m
+unfolding stored
+stored-one w n l m e f e′ f′ h =
+    eights-one n l m e e′ (λ r k.
+    slots-one w (words-length l (8 * r) (omega arith)) (words-fit l (8 * r) f) (words-length m (8 * r) (omega arith)) (words-fit m (8 * r) f′) (λ b c. h b c r k))
+
+pub reading-one : (w : Width) (n : ℕ) (l m : List ℕ) → length l ≡ 8 * (n + 1) → Fit (bits w) l → length m ≡ 8 * (n + 1) → Fit (bits w) m
+    → ((b : ℕ) → b < slots w → reading w n l b ≡ reading w n m b) → l ≡ m
+reading-one w n l m e f e′ f′ h = stored-one w (n + 1) l m e f e′ f′ (λ b c r k.
+    sym (write-read n r (stored-block w l b r))
+    ∙ ap (writeKey n r) (sym (reading-at w n l b r k) ∙ ap (λ (ks : List (List ℕ)). getD ks r []) (h b c) ∙ reading-at w n m b r k)
+    ∙ write-read n r (stored-block w m b r))
+
+-- ---- the schedule of a key
+module _ (w : Width) (nk : ℕ) (key : List ℕ) where
+  -- the eight words of round key r
+  abbrev keyPart : ℕ → List ℕ
+  keyPart r = pack w (eachSlot w (λ b. writeKey (roundsFor nk) r (getD (keyExpansion nk key) r [])))
+
+  pub schedule-length : length (scheduleOf w nk key) ≡ 8 * (roundsFor nk + 1)
+  unfolding scheduleOf
+  schedule-length = parts-length keyPart (λ r. pack-length w _) (roundsFor nk + 1) 0
+
+  pub schedule-fits : Fit (bits w) (scheduleOf w nk key)
+  unfolding scheduleOf
+  schedule-fits = parts-fit keyPart (λ r. pack-length w _) (λ r. pack-fits w _) (roundsFor nk + 1) 0
+
+module _ (w : Width) (nk : ℕ) (key : List ℕ) (pos : 1 ≤ nk) (long : length key ≡ 4 * nk) (fits : Fit 8 key) where
+  -- each slot holds the round key as it is written
+  pub schedule-stored : (b : ℕ) → b < slots w → (r : ℕ) → r < roundsFor nk + 1 → stored w (scheduleOf w nk key) b r ≡ writeKey (roundsFor nk) r (sixteen (keyWords nk key) r)
+  unfolding scheduleOf stored
+  schedule-stored b c r h =
+      let k : List ℕ = getD (keyExpansion nk key) r [] in
+      let e : k ≡ sixteen (keyWords nk key) r = key-at nk key r h in
+      ap (λ (ws : List ℕ). slot w ws b) (parts-at (keyPart w nk key) (λ r. pack-length w _) (roundsFor nk + 1) 0 r h ∙ ap (keyPart w nk key) (zero-add r))
+      ∙ slot-pack w (λ b. writeKey (roundsFor nk) r k) (λ b. write-block (roundsFor nk) r (rw e (key-block nk key pos long fits r h))) b c
+      ∙ ap (writeKey (roundsFor nk) r) e
+
+  -- and reads as FIPS-197's round keys
+  pub schedule-reads : (b : ℕ) → b < slots w → reading w (roundsFor nk) (scheduleOf w nk key) b ≡ keyExpansion nk key
+  unfolding reading keyExpansion
+  schedule-reads b c = map-same (λ r. readKey (roundsFor nk) r (stored w (scheduleOf w nk key) b r)) (sixteen (keyWords nk key)) (roundsFor nk + 1) 0 (λ r h.
+      ap (readKey (roundsFor nk) r) (schedule-stored b c r (rw (zero-add (roundsFor nk + 1)) at h))
+      ∙ read-write (roundsFor nk) r (key-block nk key pos long fits r (rw (zero-add (roundsFor nk + 1)) at h)))
+
+  -- so one statement settles each word: words of the width that hold the round keys as they are written are the schedule,
+  pub schedule-is : (l : List ℕ) → length l ≡ 8 * (roundsFor nk + 1) → Fit (bits w) l
+      → ((b : ℕ) → b < slots w → (r : ℕ) → r < roundsFor nk + 1 → stored w l b r ≡ writeKey (roundsFor nk) r (sixteen (keyWords nk key) r)) → l ≡ scheduleOf w nk key
+  schedule-is l e f h =
+      stored-one w (roundsFor nk + 1) l (scheduleOf w nk key) e f (schedule-length w nk key) (schedule-fits w nk key) (λ b c r k. h b c r k ∙ sym (schedule-stored b c r k))
+
+  -- and so are words that read so in every slot
+  pub schedule-only : (l : List ℕ) → length l ≡ 8 * (roundsFor nk + 1) → Fit (bits w) l
+      → ((b : ℕ) → b < slots w → reading w (roundsFor nk) l b ≡ keyExpansion nk key) → l ≡ scheduleOf w nk key
+  schedule-only l e f h =
+      reading-one w (roundsFor nk) l (scheduleOf w nk key) e f (schedule-length w nk key) (schedule-fits w nk key) (λ b c. h b c ∙ sym (schedule-reads b c))
+
+-- two different keys of one length never share a schedule
+some-slot : (w : Width) → 0 < slots w
+some-slot w32 = zero-lt-suc 1
+some-slot w64 = zero-lt-suc 3
+
+pub schedule-one : (w : Width) (nk : ℕ) (k l : List ℕ) → 1 ≤ nk → nk ≤ 8 → length k ≡ 4 * nk → Fit 8 k → length l ≡ 4 * nk → Fit 8 l
+    → scheduleOf w nk k ≡ scheduleOf w nk l → k ≡ l
+schedule-one w nk k l p q e f e′ f′ h =
+    expansion-one nk k l p q e e′
+    (sym (schedule-reads w nk k p e f 0 (some-slot w)) ∙ ap (λ (s : List ℕ). reading w (roundsFor nk) s 0) h ∙ schedule-reads w nk l p e′ f′ 0 (some-slot w))

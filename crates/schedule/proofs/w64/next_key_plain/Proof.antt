@@ -1,0 +1,34 @@
+-- The copy, the pass and the columns are one write of the next key. Assumes nothing.
+use borrow.Author.Needs.{needs}
+use Prim.Native.Nat.{_+_, _-_}
+use mathlib.Core.Path.{_≡_, _∙_}
+use native.Mathlib.Omega.{arith}
+use Rattle.lanes.specs.Layout.{w64}
+use Rattle.schedule.proofs.Passes.{next-lent}
+use Rattle.schedule.proofs.w64.next_key_plain.Statement.{statement}
+use Rattle.schedule.proofs.w64.next_key_plain.Tie as tie
+
+returns : tie.Need-returns
+returns c =
+    let start = c .before .before .before .before .before .before .before .before .before .before .before .before .before in
+    let a = start .args in
+    let k : a .off + 16 - (a .off + 8) ≡ 8 = omega arith in
+    next-lent w64 0 (a .idx-xor) (a .off) _ k (start .pre .2) (start .pre .0) (start .pre .1) (c .before .before .before .before .before .before .before .before .before .before .memshift32 .kept .0) (c .before .before .before .before .before .before .sub-key .kept .0 ∙ search needs) (c .before .before .xor-columns .kept .0)
+    (c .before .before .before .before .before .before .before .before .before .before .memshift32 .ensures) (c .before .before .before .before .before .before .sub-key .ensures) (c .before .before .xor-columns .ensures)
+
+pub next-key-plain-spec : {M : Type 1} → statement M
+next-key-plain-spec =
+    tie.close
+    (tie.spec
+    (λ c κs. search needs)
+    (λ c. search needs)
+    (λ c. search needs)
+    (λ c. search needs)
+    (λ c. search needs)
+    (λ c. search needs)
+    (λ c. search needs)
+    (λ c κs. search needs)
+    (λ c. search needs)
+    (λ c κs. search needs)
+    (λ c. search needs)
+    returns)

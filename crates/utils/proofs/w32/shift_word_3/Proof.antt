@@ -1,0 +1,18 @@
+-- The two swaps are the program's. Assumes nothing.
+use borrow.Author.Needs.{needs}
+use mathlib.Core.Path.{ap, _∙_}
+use Rattle.lanes.specs.Layout.{w32, quarterRow, packRows}
+use Rattle.lanes.specs.Programs.{words, deltaSwap1}
+use Rattle.utils.proofs.w32.shift_word_3.Statement.{statement}
+use Rattle.utils.proofs.w32.shift_word_3.Tie as tie
+
+returns : tie.Need-returns
+returns c = c .delta-swap-12 .ensures ∙ ap (deltaSwap1 (words w32) w32 (quarterRow w32) (packRows w32 0 0x33 0 0x33)) (c .before .delta-swap-1 .ensures)
+
+pub shift-word-3-spec : {M : Type 1} → statement M
+shift-word-3-spec =
+    tie.close
+    (tie.spec
+    (λ c κs. search needs)
+    (λ c κs. search needs)
+    returns)

@@ -1,0 +1,258 @@
+//! Ours, linked from the static library, against the Rust: compare SEED COUNT.
+//!
+//! Every call is judged whole: its number, every element of the buffer that it may write, its inputs, and guard
+//! elements around each buffer. The refusals are not the Rust's; they are stated here from paper 01's table.
+use rust_aes::{Element, FIPS_KEYS, Random, Width, hex, words};
+
+type Expand<W> = unsafe extern "C" fn(*const u8, usize, *mut W, usize) -> u32;
+type Crypt<W> = unsafe extern "C" fn(*const W, usize, *const u8, usize, *mut u8, usize) -> u32;
+type Check<W> = unsafe extern "C" fn(*const W, usize, *mut u8, usize) -> u32;
+
+/// Our calls at one width.
+trait Ours: Width {
+    const EXPAND: Expand<Self>;
+    const CRYPT: [Crypt<Self>; 2];
+    const CHECK: Check<Self>;
+}
+
+macro_rules! ours {
+    ($word:ident: $expand:ident $encrypt:ident $decrypt:ident $check:ident) => {
+        unsafe extern "C" {
+            fn $expand(k: *const u8, kn: usize, s: *mut $word, sn: usize) -> u32;
+            fn $encrypt(s: *const $word, sn: usize, i: *const u8, n: usize, o: *mut u8, on: usize) -> u32;
+            fn $decrypt(s: *const $word, sn: usize, i: *const u8, n: usize, o: *mut u8, on: usize) -> u32;
+            fn $check(s: *const $word, sn: usize, o: *mut u8, on: usize) -> u32;
+        }
+        impl Ours for $word {
+            const EXPAND: Expand<Self> = $expand;
+            const CRYPT: [Crypt<Self>; 2] = [$encrypt, $decrypt];
+            const CHECK: Check<Self> = $check;
+        }
+    };
+}
+ours!(u32: locker_aes_expand32 locker_aes_encrypt32 locker_aes_decrypt32 locker_aes_check32);
+ours!(u64: locker_aes_expand64 locker_aes_encrypt64 locker_aes_decrypt64 locker_aes_check64);
+
+unsafe extern "C" {
+    fn locker_aes(d: u32, k: *const u8, kn: usize, i: *const u8, n: usize, o: *mut u8, on: usize) -> u32;
+}
+
+/// What a call answers, and what the buffer that it may write then holds.
+type Outcome<T> = (u32, Vec<T>);
+
+/// The lowest number whose test applies; else the buffer as `write` leaves it.
+fn outcome<T: Copy>(refusals: &[(u32, bool)], buffer: &[T], write: impl FnOnce(&mut [T])) -> Outcome<T> {
+    let mut after = buffer.to_vec();
+    match refusals.iter().find(|(_, applies)| *applies) {
+        Some((number, _)) => (*number, after),
+        None => {
+            write(&mut after);
+            (0, after)
+        }
+    }
+}
+
+fn bad_key(key: &[u8]) -> bool {
+    key.len() != 16 && key.len() != 32
+}
+
+fn expanded<W: Width>(key: &[u8], schedule: &[W]) -> Outcome<W> {
+    let refusals = [(1, bad_key(key)), (2, schedule.len() != words(key.len()))];
+    outcome(&refusals, schedule, |to| W::expand(key, to))
+}
+
+fn crypted<W: Width>(direction: u32, schedule: &[W], input: &[u8], output: &[u8]) -> Outcome<u8> {
+    let n = schedule.len();
+    let refusals = [(2, n != 88 && n != 120), (3, input.len() != W::BATCH), (4, output.len() != W::BATCH)];
+    outcome(&refusals, output, |to| W::crypt(direction, schedule, input, to))
+}
+
+fn checked<W: Width>(schedule: &[W], output: &[u8]) -> Outcome<u8> {
+    let n = schedule.len();
+    outcome(&[(2, n != 88 && n != 120), (4, output.len() != 3)], output, |to| {
+        let mut batch = vec![0; W::BATCH];
+        W::crypt(0, schedule, &vec![0; W::BATCH], &mut batch);
+        to.copy_from_slice(&batch[..3]);
+    })
+}
+
+fn by_door(direction: u32, key: &[u8], input: &[u8], output: &[u8]) -> Outcome<u8> {
+    let refusals = [(1, bad_key(key)), (3, input.len() != 64), (4, output.len() != 64), (5, direction > 1)];
+    outcome(&refusals, output, |to| {
+        let mut schedule = vec![0u64; words(key.len())];
+        u64::expand(key, &mut schedule);
+        u64::crypt(direction, &schedule, input, to);
+    })
+}
+
+/// A buffer between guard elements.
+struct Lent<T>(Vec<T>);
+const GUARD: usize = 16;
+
+impl<T: Element> Lent<T> {
+    fn guard(i: usize) -> T {
+        T::low(0xc3a5_5a3c_0ff0_9669u64.rotate_left(i as u32))
+    }
+    fn new(held: &[T]) -> Self {
+        Lent((0..GUARD).map(Self::guard).chain(held.iter().copied()).chain((0..GUARD).map(Self::guard)).collect())
+    }
+    fn len(&self) -> usize {
+        self.0.len() - 2 * GUARD
+    }
+    fn at(&mut self) -> *mut T {
+        self.0[GUARD..].as_mut_ptr()
+    }
+    fn holds(&self, held: &[T]) -> bool {
+        self.0 == Self::new(held).0
+    }
+}
+
+/// Lengths on both sides of every limit of paper 01.
+const LENGTHS: [usize; 25] =
+    [0, 1, 2, 3, 4, 8, 15, 16, 17, 24, 31, 32, 33, 48, 63, 64, 65, 87, 88, 89, 104, 119, 120, 121, 128];
+
+struct Run {
+    random: Random,
+    batches: u64,
+    schedules: u64,
+    checks: u64,
+    refusals: u64,
+}
+
+impl Run {
+    fn some<T: Element>(&mut self, n: usize) -> Vec<T> {
+        let mut some = vec![T::low(0); n];
+        self.random.fill(&mut some);
+        some
+    }
+
+    fn odd<T: Element>(&mut self) -> Vec<T> {
+        let n = LENGTHS[(self.random.next() % LENGTHS.len() as u64) as usize];
+        self.some(n)
+    }
+
+    /// Holds an answer, the written buffer and whether the inputs were kept to what was expected.
+    fn judge<T: Element>(&mut self, call: &str, given: &[String], got: (u32, &Lent<T>, bool), expected: Outcome<T>) {
+        let (answer, lent, kept) = got;
+        self.refusals += u64::from(expected.0 != 0);
+        if answer == expected.0 && kept && lent.holds(&expected.1) {
+            return;
+        }
+        println!("FAILED: {call}");
+        given.iter().for_each(|i| println!("  given    {i}"));
+        println!("  expected {} {}", expected.0, hex(&expected.1));
+        println!("  answered {answer} {}", hex(&lent.0[GUARD..GUARD + lent.len()]));
+        let guards = Lent::<T>::new(&[]).0;
+        let all_guards = lent.0.starts_with(&guards[..GUARD]) && lent.0.ends_with(&guards[GUARD..]);
+        println!("  inputs unchanged: {kept}; guards of the written buffer unchanged: {all_guards}");
+        std::process::exit(1);
+    }
+
+    fn expand<W: Ours>(&mut self, key: &[u8], schedule: &[W]) {
+        let (mut k, mut s) = (Lent::new(key), Lent::new(schedule));
+        let answer = unsafe { W::EXPAND(k.at(), k.len(), s.at(), s.len()) };
+        let call = format!("expand, {} bits", 8 * size_of::<W>());
+        self.judge(&call, &[hex(key)], (answer, &s, k.holds(key)), expanded(key, schedule));
+    }
+
+    fn crypt<W: Ours>(&mut self, direction: u32, schedule: &[W], input: &[u8], output: &[u8]) {
+        let (mut s, mut i, mut o) = (Lent::new(schedule), Lent::new(input), Lent::new(output));
+        let answer = unsafe { W::CRYPT[direction as usize](s.at(), s.len(), i.at(), i.len(), o.at(), o.len()) };
+        let call = format!("crypt in direction {direction}, {} bits", 8 * size_of::<W>());
+        let got = (answer, &o, s.holds(schedule) && i.holds(input));
+        self.judge(&call, &[hex(schedule), hex(input)], got, crypted(direction, schedule, input, output));
+    }
+
+    fn check<W: Ours>(&mut self, schedule: &[W], output: &[u8]) {
+        let (mut s, mut o) = (Lent::new(schedule), Lent::new(output));
+        let answer = unsafe { W::CHECK(s.at(), s.len(), o.at(), o.len()) };
+        let call = format!("check, {} bits", 8 * size_of::<W>());
+        self.judge(&call, &[hex(schedule)], (answer, &o, s.holds(schedule)), checked(schedule, output));
+    }
+
+    fn door(&mut self, direction: u32, key: &[u8], input: &[u8], output: &[u8]) {
+        let (mut k, mut i, mut o) = (Lent::new(key), Lent::new(input), Lent::new(output));
+        let answer = unsafe { locker_aes(direction, k.at(), k.len(), i.at(), i.len(), o.at(), o.len()) };
+        let call = format!("door in direction {direction}");
+        let got = (answer, &o, k.holds(key) && i.holds(input));
+        self.judge(&call, &[hex(key), hex(input)], got, by_door(direction, key, input, output));
+    }
+
+    /// One key and one schedule at one width: good calls, and then calls with any of the lengths.
+    fn width<W: Ours>(&mut self, key: &[u8], any: &[W]) {
+        let before = self.some(words(key.len()));
+        self.expand::<W>(key, &before);
+        let made = expanded(key, &before).1;
+        for schedule in [&made[..], any] {
+            for direction in 0..2 {
+                let (input, output) = (self.some::<u8>(W::BATCH), self.some::<u8>(W::BATCH));
+                self.crypt(direction, schedule, &input, &output);
+            }
+            let output = self.some::<u8>(3);
+            self.check(schedule, &output);
+        }
+        (self.schedules, self.batches, self.checks) = (self.schedules + 1, self.batches + 4, self.checks + 2);
+
+        let (odd_key, odd_schedule) = (self.odd::<u8>(), self.odd::<W>());
+        self.expand(&odd_key, &odd_schedule);
+        self.expand(key, &odd_schedule);
+        for schedule in [any, &odd_schedule] {
+            let (input, output) = (self.odd::<u8>(), self.odd::<u8>());
+            let direction = (self.random.next() % 2) as u32;
+            self.crypt(direction, schedule, &input, &output);
+            self.check(schedule, &output);
+        }
+    }
+
+    /// One key: both widths, and the door.
+    fn key(&mut self, key: &[u8], any32: &[u32], any64: &[u64]) {
+        self.width(key, any32);
+        self.width(key, any64);
+        for direction in [0, 1, 2, self.random.next() as u32] {
+            let (input, output) = (self.some::<u8>(64), self.some::<u8>(64));
+            self.door(direction, key, &input, &output);
+            let (odd_key, odd_input, odd_output) = (self.odd::<u8>(), self.odd::<u8>(), self.odd::<u8>());
+            self.door(direction, &odd_key, &input, &output);
+            self.door(direction, key, &odd_input, &odd_output);
+            self.door(direction, &odd_key, &odd_input, &odd_output);
+        }
+        self.batches += 2;
+    }
+}
+
+/// All bytes alike, counting bytes (FIPS-197's Appendix C), Appendix A's key, and each single bit.
+fn structured(len: usize) -> Vec<Vec<u8>> {
+    let mut keys: Vec<Vec<u8>> = [0x00, 0xff, 0x63, 0x80].iter().map(|b| vec![*b; len]).collect();
+    keys.push((0..len as u8).collect());
+    keys.push(FIPS_KEYS[len / 32].to_vec());
+    for bit in 0..8 * len {
+        keys.push((0..len).map(|i| if i == bit / 8 { 1 << (bit % 8) } else { 0 }).collect());
+    }
+    keys
+}
+
+fn main() {
+    let args: Vec<u64> = std::env::args().skip(1).map(|a| a.parse().expect("SEED COUNT, decimal")).collect();
+    let (seed, count) = (args[0], args[1]);
+    println!("oracle: seed {seed}, at least {count} batches under random keys");
+    let mut run = Run { random: Random(seed), batches: 0, schedules: 0, checks: 0, refusals: 0 };
+    for len in [16, 32] {
+        let n = words(len);
+        for (i, key) in structured(len).iter().enumerate() {
+            let same = [0, u64::MAX, 0x6363_6363_6363_6363][i % 3]; // schedules of equal words
+            run.key(key, &vec![same as u32; n], &vec![same; n]);
+        }
+    }
+    let least = run.batches + count;
+    while run.batches < least {
+        for len in [16, 32] {
+            let key = run.some::<u8>(len);
+            let (any32, any64) = (run.some(words(len)), run.some(words(len)));
+            run.key(&key, &any32, &any64);
+        }
+    }
+    println!(
+        "ok oracle: {} batches, {} schedules, {} check values and {} refusals as the Rust and paper 01 have them",
+        run.batches, run.schedules, run.checks, run.refusals
+    );
+}
