@@ -1,6 +1,6 @@
 #!/bin/sh
 # Writes the Rust's answers as fixed lists, for a Rattle program to replay where there is no Rust:
-#   tests/data/oracle_sample.txt, tests/data/schedules.txt
+#   tests/data/oracle_sample.txt, tests/data/schedules.txt, and their copies in crates/
 # Ours is not asked. The lists come out the same each time; `sample.sh check` compares instead of writing.
 #
 # oracle_sample.txt: one record a line, fields between single spaces, lowercase hex, each line ended by one newline.
@@ -19,13 +19,17 @@ top=$(cd "$(dirname "$0")/../.." && pwd)
 . "$top/tools/common.sh"
 . "$top/tests/oracle/build.sh"
 rust_program "$out/sample" tests/oracle/sample.rs
-for list in answers:oracle_sample schedules:schedules; do
-    file=${list#*:}.txt
-    "$out/sample" "${list%:*}" >"$out/$file"
-    if [ "${1:-}" = check ]; then
-        cmp "$out/$file" "tests/data/$file" || fail "tests/data/$file is not what the Rust gives"
-    else
-        cp "$out/$file" "tests/data/$file"
-    fi
+# Each list has a copy in a program's crate: replay_main replays the answers, schedules_main is held to the schedules.
+for list in answers:oracle_sample:replay_main/stdin schedules:schedules:schedules_main/stdout; do
+    rest=${list#*:}
+    file=${rest%:*}.txt
+    "$out/sample" "${list%%:*}" >"$out/$file"
+    for to in "tests/data/$file" "crates/${rest#*:}"; do
+        if [ "${1:-}" = check ]; then
+            cmp "$out/$file" "$to" || fail "$to is not what the Rust gives"
+        else
+            cp "$out/$file" "$to"
+        fi
+    done
 done
 echo "ok sample: $(wc -l <"$out/oracle_sample.txt") records in oracle_sample.txt, $(grep -c '^[36][24] ' "$out/schedules.txt") schedules in schedules.txt"

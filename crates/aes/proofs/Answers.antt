@@ -123,44 +123,60 @@ key-size n h = key-case KeySize
     (record { bytes = refl; some = lit≤ tt; most = lit≤ tt; length-is = refl; room = lit≤ tt; rounds-are = refl })
     (record { bytes = refl; some = lit≤ tt; most = lit≤ tt; length-is = refl; room = lit≤ tt; rounds-are = refl }) n h
 
-pub no-words : (n : ℕ) → scheduleWords n ≡ 0 → keyWordsOf n ≡ 0
+-- the code's number of words says which key it is
+pub no-words : (n : ℕ) {m : ℕ} → m ≡ scheduleWords n → m ≡ 0 → keyWordsOf n ≡ 0
 unfolding keyWordsOf scheduleWords
-no-words n h = go (eqb n 16) (eqb n 32) h
+no-words n e z = go (eqb n 16) (eqb n 32) (sym e ∙ z)
   where
     go : (a b : Bool) → pick a 88 (pick b 120 0) ≡ 0 → pick a 4 (pick b 8 0) ≡ 0
     go true b h = absurd (omega arith)
     go false true h = absurd (omega arith)
     go false false h = refl
 
-pub key-16 : (n : ℕ) → n ≡ 16 → keyWordsOf n ≡ 4
-unfolding keyWordsOf
-key-16 n e = rw e
+pub some-words : (n : ℕ) {m : ℕ} → m ≡ scheduleWords n → (m ≡ 0 → ⊥) → keyWordsOf n ≡ 0 → ⊥
+unfolding keyWordsOf scheduleWords
+some-words n {m} e h z = h (e ∙ go (eqb n 16) (eqb n 32) z)
+  where
+    go : (a b : Bool) → pick a 4 (pick b 8 0) ≡ 0 → pick a 88 (pick b 120 0) ≡ 0
+    go true b h = absurd (omega arith)
+    go false true h = absurd (omega arith)
+    go false false h = refl
 
-pub key-32 : (n : ℕ) → n ≡ 32 → keyWordsOf n ≡ 8
-unfolding keyWordsOf
-key-32 n e = rw e
+-- 88 words are a 16-byte key's, other words a 32-byte key's
+pub key-128 : (n : ℕ) {m : ℕ} → m ≡ scheduleWords n → (m ≡ 0 → ⊥) → m ≡ 88 → (n ≡ 16) × (keyWordsOf n ≡ 4)
+key-128 n {m} e h z = key-case (λ n nk words. words ≡ 88 → (n ≡ 16) × (nk ≡ 4)) (λ q. (refl, refl)) (λ q. absurd (omega arith)) n (some-words n e h) (sym e ∙ z)
 
-pub no-key : (n : ℕ) → (n ≡ 16 → ⊥) → (n ≡ 32 → ⊥) → keyWordsOf n ≡ 0
-unfolding keyWordsOf
-no-key n p q = rw (ne-eqb n 16 p, ne-eqb n 32 q)
+pub key-256 : (n : ℕ) {m : ℕ} → m ≡ scheduleWords n → (m ≡ 0 → ⊥) → (m ≡ 88 → ⊥) → (n ≡ 32) × (keyWordsOf n ≡ 8) × (m ≡ 120)
+key-256 n {m} e h z =
+    let g = key-case (λ n nk words. (words ≡ 88 → ⊥) → (n ≡ 32) × (nk ≡ 8) × (words ≡ 120)) (λ q. absurd (q refl)) (λ q. (refl, refl, refl)) n (some-words n e h) (λ q. z (e ∙ q)) in
+    (g .0, g .1, e ∙ g .2)
 
--- ---- expand
+-- ---- expand; m is the code's number of words
 module _ (w : Width) (key s : List ℕ) where
-  pub expand-1 : keyWordsOf (length key) ≡ 0 → answers 1 s ≡ expandOutcome w key s
-  unfolding expandOutcome
-  expand-1 p = rw (eq-eqb (keyWordsOf (length key)) 0 p)
-
   -- nk is the key's number of words
   module _ (nk : ℕ) (k : keyWordsOf (length key) ≡ nk) (some : nk ≡ 0 → ⊥) where
-    pub expand-2 : (length s ≡ 8 * (roundsFor nk + 1) → ⊥) → answers 2 s ≡ expandOutcome w key s
+    taken-0 : {x : List ℕ} → length s ≡ 8 * (roundsFor nk + 1) → x ≡ scheduleOf w nk key → answers 0 x ≡ expandOutcome w key s
     unfolding expandOutcome
-    expand-2 q = rw (k, ne-eqb nk 0 some, ne-eqb (length s) (8 * (roundsFor nk + 1)) q)
+    taken-0 q e = rw (k, ne-eqb nk 0 some, eq-eqb (length s) (8 * (roundsFor nk + 1)) q, e)
 
-    pub expand-0 : {x : List ℕ} → length s ≡ 8 * (roundsFor nk + 1) → x ≡ scheduleOf w nk key → answers 0 x ≡ expandOutcome w key s
+  module _ {m : ℕ} (e : m ≡ scheduleWords (length key)) where
+    pub expand-1 : m ≡ 0 → answers 1 s ≡ expandOutcome w key s
     unfolding expandOutcome
-    expand-0 q e = rw (k, ne-eqb nk 0 some, eq-eqb (length s) (8 * (roundsFor nk + 1)) q, e)
+    expand-1 p = rw (eq-eqb (keyWordsOf (length key)) 0 (no-words (length key) e p))
+
+    pub expand-2 : (m ≡ 0 → ⊥) → (length s ≡ m → ⊥) → answers 2 s ≡ expandOutcome w key s
+    unfolding expandOutcome
+    expand-2 p q =
+        let k = some-words (length key) e p in
+        rw (ne-eqb (keyWordsOf (length key)) 0 k, ne-eqb (length s) (8 * (roundsFor (keyWordsOf (length key)) + 1)) (λ z. q (z ∙ sym (key-size (length key) k .length-is) ∙ sym e)))
+
+    pub expand-128 : (m ≡ 0 → ⊥) → length s ≡ m → m ≡ 88 → {x : List ℕ} → x ≡ scheduleOf w 4 key → answers 0 x ≡ expandOutcome w key s
+    expand-128 p q z f = taken-0 4 (key-128 (length key) e p z .1) (λ y. omega arith) (q ∙ z) f
+
+    pub expand-256 : (m ≡ 0 → ⊥) → length s ≡ m → (m ≡ 88 → ⊥) → {x : List ℕ} → x ≡ scheduleOf w 8 key → answers 0 x ≡ expandOutcome w key s
+    expand-256 p q z f = let k = key-256 (length key) e p z in taken-0 8 (k .1) (λ y. omega arith) (q ∙ k .2) f
 
 -- what a caller learns of an expansion that is not refused
 pub expand-taken : (w : Width) (key s : List ℕ) {r : ℕ} {x : List ℕ} → answers r x ≡ expandOutcome w key s → (keyWordsOf (length key) ≡ 0 → ⊥)
     → length s ≡ 8 * (roundsFor (keyWordsOf (length key)) + 1) → (r ≡ 0) × (x ≡ scheduleOf w (keyWordsOf (length key)) key)
-expand-taken w key s e p q = settled _ e (expand-0 w key s (keyWordsOf (length key)) refl p q refl)
+expand-taken w key s e p q = settled _ e (taken-0 w key s (keyWordsOf (length key)) refl p q refl)

@@ -1,3 +1,1 @@
 pub mod Answers
-pub mod Theorems
-pub mod Wrong

@@ -6,39 +6,23 @@ ghost use Rattle.lanes.specs.Layout.{w32};
 ghost use Rattle.lanes.specs.Schedule.{encryptedBatch};
 ghost use Rattle.aes.specs.Outcome.{answers, expandOutcome, encryptOutcome, decryptOutcome, checkOutcome};
 
-// The schedule of a 16-byte key: 10 rounds, 88 words.
-fn expand_128(key: &[u8], schedule: &mut [u32]) -> u32
-    requires { ⌜ length (now key) ≡ 16 ⌝ }
-    ensures { λ r. ⌜ answers r (now (schedule .exit)) ≡ expandOutcome w32 (now (key .entry)) (now (schedule .entry)) ⌝ }
-{
-    if schedule.len() != 88 {
-        return 2;
-    }
-    schedule::w32::key_schedule_128(key, schedule);
-    0
-}
-
-// The schedule of a 32-byte key: 14 rounds, 120 words.
-fn expand_256(key: &[u8], schedule: &mut [u32]) -> u32
-    requires { ⌜ length (now key) ≡ 32 ⌝ }
-    ensures { λ r. ⌜ answers r (now (schedule .exit)) ≡ expandOutcome w32 (now (key .entry)) (now (schedule .entry)) ⌝ }
-{
-    if schedule.len() != 120 {
-        return 2;
-    }
-    schedule::w32::key_schedule_256(key, schedule);
-    0
-}
-
 // Expands a key into its schedule.
 pub fn expand(key: &[u8], schedule: &mut [u32]) -> u32
     ensures { λ r. ⌜ answers r (now (schedule .exit)) ≡ expandOutcome w32 (now (key .entry)) (now (schedule .entry)) ⌝ }
 {
-    match key.len() {
-        16 => expand_128(key, schedule),
-        32 => expand_256(key, schedule),
-        _ => 1,
+    let words = super::schedule_words(key.len());
+    if words == 0 { // expand
+        return 1; // expand: not a key
     }
+    if schedule.len() != words { // expand
+        return 2; // expand: not this key's schedule
+    }
+    if words == 88 {
+        schedule::w32::key_schedule_128(key, schedule);
+        return 0;
+    }
+    schedule::w32::key_schedule_256(key, schedule);
+    0 // expanded
 }
 
 // Encrypts one full batch of 32 bytes.
@@ -47,16 +31,16 @@ pub fn encrypt(schedule: &[u32], input: &[u8], output: &mut [u8]) -> u32
 {
     let n = super::rounds_of(schedule.len());
     if n == 0 {
-        return 2;
+        return 2; // encrypt: not a schedule
     }
-    if input.len() != 32 {
-        return 3;
+    if input.len() != 32 { // encrypt
+        return 3; // encrypt: not one full batch in
     }
-    if output.len() != 32 {
-        return 4;
+    if output.len() != 32 { // encrypt
+        return 4; // encrypt: no room for one full batch
     }
     cipher::w32::encrypt(schedule, n, input, output);
-    0
+    0 // encrypted
 }
 
 // Decrypts one full batch of 32 bytes.
@@ -65,16 +49,16 @@ pub fn decrypt(schedule: &[u32], input: &[u8], output: &mut [u8]) -> u32
 {
     let n = super::rounds_of(schedule.len());
     if n == 0 {
-        return 2;
+        return 2; // decrypt: not a schedule
     }
-    if input.len() != 32 {
-        return 3;
+    if input.len() != 32 { // decrypt
+        return 3; // decrypt: not one full batch in
     }
-    if output.len() != 32 {
-        return 4;
+    if output.len() != 32 { // decrypt
+        return 4; // decrypt: no room for one full batch
     }
     cipher::w32::decrypt(schedule, n, input, output);
-    0
+    0 // decrypted
 }
 
 // A batch of zero bytes. A call, so that a goal says its result and not 32 zeros.
@@ -100,15 +84,15 @@ pub fn check_value(schedule: &[u32], output: &mut [u8]) -> u32
     ensures { λ r. ⌜ answers r (now (output .exit)) ≡ checkOutcome w32 (now (schedule .entry)) (now (output .entry)) ⌝ }
 {
     let n = super::rounds_of(schedule.len());
-    if n == 0 {
-        return 2;
+    if n == 0 { // check
+        return 2; // check: not a schedule
     }
-    if output.len() != 3 {
-        return 4;
+    if output.len() != 3 { // check
+        return 4; // check: not three bytes
     }
     let batch = encrypted_zeros(schedule, n);
     output[0] = batch[0];
     output[1] = batch[1];
     output[2] = batch[2];
-    0
+    0 // checked
 }

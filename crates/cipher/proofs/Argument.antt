@@ -15,7 +15,7 @@ use borrow.Author.Tests.{eq-eqb, ne-eqb}
 use Rattle.fips197.specs.Aes.{Fit, Block, range, choose, product, xtime, subBytes, invSubBytes, shiftRows, invShiftRows, mixColumns, invMixColumns, addRoundKey, rounds, cipher, invCipher}
 use Rattle.fips197.proofs.Layers.{Bytes, blockOf, shiftRowsOf, invShiftRowsOf, mixColumnsOf, addRoundKeyOf}
 use Rattle.fips197.proofs.Blocks.{reads, block-is, fit-append, fit-reads, fit-each, sub-block, invSub-block, shift-block, invShift-block, mix-block, invMix-block, add-block}
-use Rattle.fips197.proofs.Laws.{layers, sub-shift, invSub-sub, sub-invSub, invShift-shift, shift-four, invMix-mix, add-add}
+use Rattle.fips197.proofs.Laws.{layers, sub-shift, invSub-sub, sub-invSub, shift-four, invMix-mix, mix-invMix, add-add}
 use Rattle.fips197.proofs.Ciphers.{Blocks, none, more, cipher-invCipher, invCipher-block}
 use Rattle.lanes.specs.Leaves.{add63, bareSubBytes, invBareSubBytes, rowsShifted, rowsUnshifted, mixForm, invMixForm}
 use Rattle.lanes.specs.Schedule.{readKey}
@@ -131,13 +131,23 @@ shifted-unshifted b (suc (suc zero)) h = block-is b
 shifted-unshifted b (suc (suc (suc zero))) h = block-is b
 shifted-unshifted b (suc (suc (suc (suc n)))) h = absurd (omega arith)
 
-invBare-bare : {s : List ℕ} → Block s → invBareSubBytes (bareSubBytes s) ≡ s
+-- inv_sub_bytes is the exact inverse of sub_bytes, both ways round
+pub invBare-bare : {s : List ℕ} → Block s → invBareSubBytes (bareSubBytes s) ≡ s
 unfolding bareSubBytes invBareSubBytes
 invBare-bare b = ap invSubBytes (add63-twice (sub-block b)) ∙ invSub-sub b
 
-invForm-form : {s : List ℕ} → Block s → (i : ℕ) → i < 4 → invMixForm i (mixForm i s) ≡ s
+pub bare-invBare : {s : List ℕ} → Block s → bareSubBytes (invBareSubBytes s) ≡ s
+unfolding bareSubBytes invBareSubBytes
+bare-invBare b = ap add63 (sub-invSub (add63-block b)) ∙ add63-twice b
+
+-- inv_mix_columns of form i undoes mix_columns of form i, both ways round
+pub invForm-form : {s : List ℕ} → Block s → (i : ℕ) → i < 4 → invMixForm i (mixForm i s) ≡ s
 unfolding mixForm invMixForm
 invForm-form b i h = rw (shifted-unshifted (mix-block (shifted-block i b)) i h, invMix-mix (shifted-block i b)) (unshifted-shifted b i h)
+
+pub form-invForm : {s : List ℕ} → Block s → (i : ℕ) → i < 4 → mixForm i (invMixForm i s) ≡ s
+unfolding mixForm invMixForm
+form-invForm b i h = rw (shifted-unshifted (invMix-block (shifted-block i b)) i h, mix-invMix (shifted-block i b)) (unshifted-shifted b i h)
 
 -- ShiftRows is counted modulo four
 pub shifted-mod : {s : List ℕ} → Block s → (n : ℕ) → n < 4 → rowsShifted (suc n % 4) s ≡ shiftRows (rowsShifted n s)

@@ -17,6 +17,19 @@ key-at : (w : Width) (l : List ℕ) (m off k b : ℕ) → 8 * m ≡ off → k �
 unfolding stored wordsAt
 key-at w l m off k b e f = rw (e, f)
 
+-- the lengths of the parts that the loops lend
+pub eight-8 : (off : ℕ) → off + 8 - off ≡ 8
+eight-8 off = omega arith
+
+pub eight-16 : (off : ℕ) → off + 16 - (off + 8) ≡ 8
+eight-16 off = omega arith
+
+pub eight-24 : (off : ℕ) → off + 24 - (off + 16) ≡ 8
+eight-24 off = omega arith
+
+pub eight-32 : (off : ℕ) → off + 32 - (off + 24) ≡ 8
+eight-32 off = omega arith
+
 -- the calls of one round, through the states s, t, u, v
 pub round-is : (w : Width) (l : List ℕ) (off i k : ℕ) {s t u v : List ℕ} → k ≡ 8
     → Does w (all bareSubBytes) s t → Does w (all (mixForm i)) t u → Does w (addKeyOf w (take k (drop off l))) u v → Does w (roundAt w l off i) s v
@@ -93,12 +106,15 @@ undone {w} {l} {m} {s₀} {s} {r} off e g d =
     let z : off - 8 ≡ 0 = omega arith in
     record { each = λ b h. (rw z at (f .slots-left b h)) }
 
--- the offsets of the second, third and fourth round of a turn, and of the next turn
-back-2 : (off : ℕ) → off - 16 ≡ off - 8 - 8
-back-2 off = omega arith
+-- the offsets of the second, third and fourth round of a turn, counted from the next turn's
+back-1 : (off : ℕ) → 40 ≤ off → off - 32 + 24 ≡ off - 8
+back-1 off h = omega arith
 
-back-3 : (off : ℕ) → off - 24 ≡ off - 8 - 8 - 8
-back-3 off = omega arith
+back-2 : (off : ℕ) → 40 ≤ off → off - 32 + 16 ≡ off - 8 - 8
+back-2 off h = omega arith
+
+back-3 : (off : ℕ) → 40 ≤ off → off - 32 + 8 ≡ off - 8 - 8 - 8
+back-3 off h = omega arith
 
 back-4 : (off : ℕ) → off - 32 ≡ off - 8 - 8 - 8 - 8
 back-4 off = omega arith
@@ -112,14 +128,14 @@ steps off h p = ((omega arith, omega arith, omega arith), (omega arith, omega ar
 
 -- a turn: four rounds undone
 pub unturned : {w : Width} {l : List ℕ} {m : ℕ} {s₀ s s₁ s₂ s₃ s₄ : List ℕ} (off : ℕ) → off % 32 ≡ 8 → 40 ≤ off → Left w l m off s₀ s
-    → Does w (unroundAt w l off 1) s s₁ → Does w (unroundAt w l (off - 8) 0) s₁ s₂ → Does w (unroundAt w l (off - 16) 3) s₂ s₃ → Does w (unroundAt w l (off - 24) 2) s₃ s₄
+    → Does w (unroundAt w l off 1) s s₁ → Does w (unroundAt w l (off - 32 + 24) 0) s₁ s₂ → Does w (unroundAt w l (off - 32 + 16) 3) s₂ s₃ → Does w (unroundAt w l (off - 32 + 8) 2) s₃ s₄
     → Left w l m (off - 32) s₀ s₄
 unturned off p q g d e f h =
     let n = steps off q p in
     let a = undo off 1 (n .0 .0) (n .0 .1) (n .0 .2) g d in
-    let b = undo (off - 8) 0 (n .1 .0) (n .1 .1) (n .1 .2) a e in
-    let c = undo (off - 8 - 8) 3 (n .2 .0) (n .2 .1) (n .2 .2) b (rw (back-2 off) at f) in
-    rw (back-4 off) (undo (off - 8 - 8 - 8) 2 (n .3 .0) (n .3 .1) (n .3 .2) c (rw (back-3 off) at h))
+    let b = undo (off - 8) 0 (n .1 .0) (n .1 .1) (n .1 .2) a (rw (back-1 off q) at e) in
+    let c = undo (off - 8 - 8) 3 (n .2 .0) (n .2 .1) (n .2 .2) b (rw (back-2 off q) at f) in
+    rw (back-4 off) (undo (off - 8 - 8 - 8) 2 (n .3 .0) (n .3 .1) (n .3 .2) c (rw (back-3 off q) at h))
 
 -- the offsets of a turn
 pub turn-down : (last off : ℕ) → off % 32 ≡ 8 → off + 8 ≤ last → (off ≡ 8 → ⊥) → (40 ≤ off) × ((off - 32) % 32 ≡ 8) × (off - 32 + 8 ≤ last) × (off - 32 < off)

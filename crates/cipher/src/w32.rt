@@ -1,10 +1,10 @@
 // A full batch of two blocks in words of 32 bits, with any schedule: 88 or 120 words, read as docs/SCOPE.md says.
 ghost use mathlib.Core.Path.{_≡_};
-ghost use Prim.Native.Nat.{_+_, _-_, _*_, _/_, _%_, _<_, _≤_};
+ghost use Prim.Native.Nat.{_+_, _-_, _*_, _/_, _%_};
 ghost use lib.ListN.{length};
 ghost use Rattle.lanes.specs.Layout.{w32, Does};
 ghost use Rattle.lanes.specs.Schedule.{encryptedBatch, decryptedBatch};
-ghost use Rattle.cipher.specs.Fixslice.{roundAt, roundsIn, unroundAt, undoneIn};
+ghost use Rattle.cipher.specs.Fixslice.{roundsIn, undoneIn};
 use mix_columns::w32::inv_mix_columns;
 use mix_columns::w32::mix_columns;
 use sbox::w32::inv_sub_bytes;
@@ -15,15 +15,7 @@ use utils::w32::shift_rows_2;
 use word::w32::bitslice;
 use word::w32::inv_bitslice;
 
-// One round of form `form`, with the eight words of the schedule that start at `off`; the ShiftRows is completely omitted.
-fn round(state: [u32; 8], rkeys: &[u32], off: usize, form: u32) -> [u32; 8]
-    requires { ⌜ (off + 8 ≤ length (now rkeys)) × (form < 4) ⌝ }
-    ensures { λ r. ⌜ Does w32 (roundAt w32 (now (rkeys .entry)) off form) state r ⌝ }
-{
-    add_round_key(mix_columns(sub_bytes(state), form), &rkeys[off..off + 8])
-}
-
-// Rounds 1 to last / 8 - 1, four forms to a turn: the loop is left from its middle, at offset 80 or 112.
+// Rounds 1 to last / 8 - 1, four forms to a turn (the ShiftRows is completely omitted). The loop is left from its middle, at offset 80 or 112.
 fn rounds(first: [u32; 8], rkeys: &[u32], last: usize) -> [u32; 8]
     requires { ⌜ (last % 32 ≡ 16) × (last + 8 ≡ length (now rkeys)) ⌝ }
     ensures { λ r. ⌜ Does w32 (roundsIn w32 (now (rkeys .entry)) (last / 8 - 1)) first r ⌝ }
@@ -31,14 +23,14 @@ fn rounds(first: [u32; 8], rkeys: &[u32], last: usize) -> [u32; 8]
     let mut state = first;
     let mut off: usize = 8;
     loop {
-        let s1 = round(state, rkeys, off, 1);
+        let s1 = add_round_key(mix_columns(sub_bytes(state), 1), &rkeys[off..off + 8]);
         off += 8;
         if off == last {
             break s1;
         }
-        let s2 = round(s1, rkeys, off, 2);
-        let s3 = round(s2, rkeys, off + 8, 3);
-        state = round(s3, rkeys, off + 16, 0);
+        let s2 = add_round_key(mix_columns(sub_bytes(s1), 2), &rkeys[off..off + 8]);
+        let s3 = add_round_key(mix_columns(sub_bytes(s2), 3), &rkeys[off + 8..off + 16]);
+        state = add_round_key(mix_columns(sub_bytes(s3), 0), &rkeys[off + 16..off + 24]);
         off += 24;
     }
 }
@@ -56,14 +48,6 @@ pub fn encrypt(schedule: &[u32], n: usize, input: &[u8], output: &mut [u8])
     inv_bitslice(s3, output);
 }
 
-// One round of form `form` undone.
-fn unround(state: [u32; 8], rkeys: &[u32], off: usize, form: u32) -> [u32; 8]
-    requires { ⌜ (off + 8 ≤ length (now rkeys)) × (form < 4) ⌝ }
-    ensures { λ r. ⌜ Does w32 (unroundAt w32 (now (rkeys .entry)) off form) state r ⌝ }
-{
-    inv_sub_bytes(inv_mix_columns(add_round_key(state, &rkeys[off..off + 8]), form))
-}
-
 // Rounds last / 8 - 1 to 1 undone, the forms in the opposite order.
 fn unrounds(first: [u32; 8], rkeys: &[u32], last: usize) -> [u32; 8]
     requires { ⌜ (last % 32 ≡ 16) × (last + 8 ≡ length (now rkeys)) ⌝ }
@@ -72,14 +56,14 @@ fn unrounds(first: [u32; 8], rkeys: &[u32], last: usize) -> [u32; 8]
     let mut state = first;
     let mut off: usize = last - 8;
     loop {
-        let s1 = unround(state, rkeys, off, 1);
+        let t1 = inv_sub_bytes(inv_mix_columns(add_round_key(state, &rkeys[off..off + 8]), 1));
         if off == 8 {
-            break s1;
+            break t1;
         }
-        let s2 = unround(s1, rkeys, off - 8, 0);
-        let s3 = unround(s2, rkeys, off - 16, 3);
-        state = unround(s3, rkeys, off - 24, 2);
         off -= 32;
+        let t2 = inv_sub_bytes(inv_mix_columns(add_round_key(t1, &rkeys[off + 24..off + 32]), 0));
+        let t3 = inv_sub_bytes(inv_mix_columns(add_round_key(t2, &rkeys[off + 16..off + 24]), 3));
+        state = inv_sub_bytes(inv_mix_columns(add_round_key(t3, &rkeys[off + 8..off + 16]), 2));
     }
 }
 

@@ -12,19 +12,9 @@ use Rattle.fips197.specs.Aes.{roundsFor}
 use Rattle.lanes.specs.Layout.{w64}
 use Rattle.lanes.specs.Schedule.{scheduleOf, encryptedBatch, decryptedBatch}
 use Rattle.schedule.proofs.Reading.{schedule-length}
-use Rattle.aes.specs.Outcome.{answers, keyWordsOf, scheduleWords, roundsOf, pick, either, directed, expandOutcome, cryptOutcome, doorOutcome}
-use Rattle.aes.proofs.Answers.{KeySize, key-size, no-words, expand-taken, crypt-taken}
+use Rattle.aes.specs.Outcome.{answers, keyWordsOf, scheduleWords, roundsOf, either, directed, expandOutcome, cryptOutcome, doorOutcome}
+use Rattle.aes.proofs.Answers.{KeySize, key-size, expand-taken, crypt-taken}
 use Rattle.host.specs.Door.{Ready}
-
--- no key, no words
-pub no-key-words : (n : ℕ) → keyWordsOf n ≡ 0 → scheduleWords n ≡ 0
-unfolding keyWordsOf scheduleWords
-no-key-words n h = go (eqb n 16) (eqb n 32) h
-  where
-    go : (a b : Bool) → pick a 4 (pick b 8 0) ≡ 0 → pick a 88 (pick b 120 0) ≡ 0
-    go true b h = absurd (omega arith)
-    go false true h = absurd (omega arith)
-    go false false h = refl
 
 -- neither 0 nor 1
 neither : (d : ℕ) → 1 < d → not (either (eqb d 0) (eqb d 1)) ≡ true
@@ -74,11 +64,11 @@ module _ (d : ℕ) (k s₀ i o : List ℕ) (ready : Ready d k s₀ i o) {r₀ : 
   rounds-of-s : roundsOf (length s) ≡ roundsFor nk
   rounds-of-s = ap (λ (l : List ℕ). roundsOf (length l)) is ∙ ap roundsOf (schedule-length w64 nk k ∙ sym (size .length-is)) ∙ size .rounds-are
 
-  pub door-done : (f : ℕ → List ℕ → List ℕ → List ℕ) → directed (eqb d 0) ≡ f → {r : ℕ} {x : List ℕ} → answers r x ≡ cryptOutcome f 64 s i o → answers r x ≡ doorOutcome d k i o
+  pub door-done : (f : ℕ → List ℕ → List ℕ → List ℕ) → directed (eqb d 0) ≡ f → {r : ℕ} {x : List ℕ} → answers r x ≡ cryptOutcome f 64 s i o → answers 0 x ≡ doorOutcome d k i o
   unfolding nk
   door-done f e {r} {x} a =
       let t = crypt-taken f 64 s i o a (λ z. some (sym rounds-of-s ∙ z)) (ready .full-input) (ready .full-output) in
-      rw (t .0, t .1, rounds-of-s, is, ← e) (door-0 d k i o (ready .keyed) (ready .full-input) (ready .full-output) (ready .directed))
+      rw (t .1, rounds-of-s, is, ← e) (door-0 d k i o (ready .keyed) (ready .full-input) (ready .full-output) (ready .directed))
     where
       some : roundsFor nk ≡ 0 → ⊥
       some z = omega arith

@@ -2,34 +2,31 @@
 ghost use mathlib.Core.Path.{_≡_};
 ghost use Rattle.lanes.specs.Layout.{w32, w64};
 ghost use Rattle.host.specs.Door.{Ready};
-ghost use Rattle.aes.specs.Outcome.{answers, scheduleWords, expandOutcome, encryptOutcome, decryptOutcome, checkOutcome, doorOutcome};
+ghost use Rattle.aes.specs.Outcome.{answers, expandOutcome, encryptOutcome, decryptOutcome, checkOutcome, doorOutcome};
 
 // Room for either schedule. A call, so that a goal says its result and not 120 zeros.
 fn blank() -> [u64; 120] {
     [0u64; 120]
 }
 
-// The words of a schedule for a key of so many bytes; 0 where there is none.
-fn schedule_words(bytes: usize) -> usize
-    ensures { λ r. ⌜ r ≡ scheduleWords bytes ⌝ }
-{
-    match bytes {
-        16 => 88,
-        32 => 120,
-        _ => 0,
-    }
-}
-
 // The door behind its tests: the schedule is made in the words lent here, and used.
-fn crypt_with(direction: u32, key: &[u8], schedule: &mut [u64], input: &[u8], output: &mut [u8]) -> u32
+fn crypt_with(
+    direction: u32,
+    key: &[u8],
+    schedule: &mut [u64],
+    input: &[u8],
+    output: &mut [u8],
+) -> u32
     requires { ⌜ Ready direction (now key) (now schedule) (now input) (now output) ⌝ }
     ensures { λ r. ⌜ answers r (now (output .exit)) ≡ doorOutcome direction (now (key .entry)) (now (input .entry)) (now (output .entry)) ⌝ }
 {
     aes::w64::expand(key, schedule);
     if direction == 0 {
-        return aes::w64::encrypt(schedule, input, output);
+        aes::w64::encrypt(schedule, input, output);
+        return 0;
     }
-    aes::w64::decrypt(schedule, input, output)
+    aes::w64::decrypt(schedule, input, output);
+    0
 }
 
 // The door: a key, one batch of four blocks and a direction, 0 to encrypt and 1 to decrypt; the schedule does not leave it.
@@ -37,7 +34,7 @@ fn crypt_with(direction: u32, key: &[u8], schedule: &mut [u64], input: &[u8], ou
 pub extern "C" fn locker_aes(direction: u32, key: &[u8], input: &[u8], output: &mut [u8]) -> u32
     ensures { λ r. ⌜ answers r (now (output .exit)) ≡ doorOutcome direction (now (key .entry)) (now (input .entry)) (now (output .entry)) ⌝ }
 {
-    let words = schedule_words(key.len());
+    let words = aes::schedule_words(key.len());
     if words == 0 {
         return 1;
     }

@@ -121,8 +121,8 @@ fn not_keys(rkeys: &mut [u64], end: usize)
     requires { ⌜ (1 ≤ end) × (8 * end ≤ length (now rkeys)) ⌝ }
     ensures { λ r. ⌜ Adjusted w64 (λ r. add63) end (now (rkeys .entry)) (now (rkeys .exit)) ⌝ }
 {
-    for r in 1..end {
-        sub_bytes_nots_in(&mut rkeys[8 * r..8 * r + 8]);
+    for i in 1..end {
+        sub_bytes_nots_in(&mut rkeys[8 * i..8 * i + 8]);
     }
 }
 

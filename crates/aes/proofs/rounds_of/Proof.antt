@@ -17,9 +17,4 @@ unfolding roundsOf
 returns-3 c = rw (ne-eqb _ 88 (c .match .rest .0 .1), ne-eqb _ 120 (c .match .rest .1))
 
 pub rounds-of-spec : {M : Type 1} → statement M
-rounds-of-spec =
-    tie.close
-    (tie.spec
-    returns
-    returns-2
-    returns-3)
+rounds-of-spec = tie.close (tie.spec returns returns-2 returns-3)

@@ -13,15 +13,4 @@ returns-2 : tie.Need-returns-2
 returns-2 c = door-done _ _ _ _ _ (c .before .before .before .before .before .before .before .before .before .before .before .before .before .before .pre) (c .before .before .before .before .before .before .before .before .expand .ensures) (decryptedBatch w64) (decrypts _ (c .before .before .before .before .before .if1 .left)) (c .before .before .decrypt .ensures)
 
 pub crypt-with-spec : {M : Type 1} → statement M
-crypt-with-spec =
-    tie.close
-    (tie.spec
-    (λ c κs. search needs)
-    (λ c κs. search needs)
-    (λ c. search needs)
-    (λ c. search needs)
-    returns
-    (λ c κs. search needs)
-    (λ c. search needs)
-    (λ c. search needs)
-    returns-2)
+crypt-with-spec = tie.close (tie.spec (λ c κs. search needs) (λ c κs. search needs) (λ c. search needs) (λ c. search needs) returns (λ c κs. search needs) (λ c. search needs) (λ c. search needs) returns-2)

@@ -2,16 +2,16 @@
 use borrow.Author.Needs.{needs}
 use Prim.Native.Nat.{_≤_}
 use lib.ListN.{length}
-use mathlib.Core.Path.{_≡_, sym, _∙_}
+use mathlib.Core.Path.{_≡_, _∙_}
 use native.Mathlib.Omega.{arith}
-use Rattle.aes.proofs.Answers.{no-words, key-size}
+use Rattle.aes.proofs.Answers.{no-words, some-words, key-size}
 use Rattle.aes.specs.Outcome.{keyWordsOf}
-use Rattle.host.proofs.Door.{no-key-words, door-1, door-3, door-4, door-5, front-length}
+use Rattle.host.proofs.Door.{door-1, door-3, door-4, door-5, front-length}
 use Rattle.host.proofs.locker_aes.Statement.{statement}
 use Rattle.host.proofs.locker_aes.Tie as tie
 
 keyed : (c : tie.Else1) → keyWordsOf (length (c .before .before .before .before .before .args .key .now)) ≡ 0 → ⊥
-keyed c z = c .if1 .left (c .before .schedule-words .ensures ∙ no-key-words _ z)
+keyed c = some-words _ (c .before .schedule-words .ensures) (c .if1 .left)
 
 room : (c : tie.After-blank) → c .before .before .before .before .before .schedule-words .result ≤ length (c .blank .result)
 room c =
@@ -19,7 +19,7 @@ room c =
     omega (arith, key-size _ (keyed (c .before .before .before .before)) .room, c .before .before .before .before .before .schedule-words .ensures)
 
 returns : tie.Need-returns
-returns c = door-1 _ _ _ _ (no-words _ (sym (c .before .schedule-words .ensures) ∙ c .if1 .taken))
+returns c = door-1 _ _ _ _ (no-words _ (c .before .schedule-words .ensures) (c .if1 .taken))
 
 returns-2 : tie.Need-returns-2
 returns-2 c = door-3 _ _ _ _ (keyed (c .before)) (c .if2 .taken)
@@ -48,18 +48,4 @@ returns-5 : tie.Need-returns-5
 returns-5 c = c .before .before .before .crypt-with .ensures
 
 pub locker-aes-spec : {M : Type 1} → statement M
-locker-aes-spec =
-    tie.close
-    (tie.spec
-    (λ c κs. search needs)
-    returns
-    returns-2
-    returns-3
-    returns-4
-    (λ c κs. search needs)
-    (λ c. search needs)
-    (λ c. search needs)
-    part-schedule-end
-    crypt-with-requires
-    (λ c. search needs)
-    returns-5)
+locker-aes-spec = tie.close (tie.spec (λ c κs. search needs) returns returns-2 returns-3 returns-4 (λ c κs. search needs) (λ c. search needs) (λ c. search needs) part-schedule-end crypt-with-requires (λ c. search needs) returns-5)

@@ -23,16 +23,4 @@ returns : tie.Need-returns Inv-loop μ-loop
 returns c = copied-all (c .before .before .args .t1) (c .before .loop .part) (c .before .loop .i) (omega arith) (omega arith) (c .before .loop .inv .3)
 
 pub copy16-spec : {M : Type 1} → statement M
-copy16-spec =
-    tie.close
-    (tie.spec
-    Inv-loop
-    μ-loop
-    (λ c. search needs)
-    (λ c. search needs)
-    (λ c. search needs)
-    (λ c. search needs)
-    (λ c. search needs)
-    loop-again
-    (λ c. search needs)
-    returns)
+copy16-spec = tie.close (tie.spec Inv-loop μ-loop (λ c. search needs) (λ c. search needs) (λ c. search needs) (λ c. search needs) (λ c. search needs) loop-again (λ c. search needs) returns)

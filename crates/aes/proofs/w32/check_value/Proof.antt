@@ -26,18 +26,4 @@ returns-3 c =
     (check-stored w32 _ _ (c .before .before .before .before .before .before .args .output .now) (b .result) (c .before .if2 .left) e (b .ensures))
 
 pub check-value-spec : {M : Type 1} → statement M
-check-value-spec =
-    tie.close
-    (tie.spec
-    (λ c κs. search needs)
-    returns
-    returns-2
-    encrypted-zeros-requires
-    (λ c. search needs)
-    (λ c. omega (arith, c .before .if2 .left))
-    (λ c. search needs)
-    (λ c. simp length-set (omega (arith, c .before .if2 .left)))
-    (λ c. search needs)
-    (λ c. simp length-set (omega (arith, c .before .if2 .left)))
-    (λ c. simp length-set)
-    returns-3)
+check-value-spec = tie.close (tie.spec (λ c κs. search needs) returns returns-2 encrypted-zeros-requires (λ c. search needs) (λ c. omega (arith, c .before .if2 .left)) (λ c. search needs) (λ c. simp length-set (omega (arith, c .before .if2 .left))) (λ c. search needs) (λ c. simp length-set (omega (arith, c .before .if2 .left))) (λ c. simp length-set) returns-3)

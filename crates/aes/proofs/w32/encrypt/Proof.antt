@@ -27,13 +27,4 @@ returns-4 c =
     crypt-0 (encryptedBatch w32) 32 _ _ _ (d .before .before .before .rounds-of .ensures) (d .before .before .if1 .left) (d .before .if2 .left) (d .if3 .left) (c .before .before .encrypt .ensures)
 
 pub encrypt-spec : {M : Type 1} → statement M
-encrypt-spec =
-    tie.close
-    (tie.spec
-    (λ c κs. search needs)
-    returns
-    returns-2
-    returns-3
-    encrypt-requires
-    (λ c. search needs)
-    returns-4)
+encrypt-spec = tie.close (tie.spec (λ c κs. search needs) returns returns-2 returns-3 encrypt-requires (λ c. search needs) returns-4)

@@ -13,12 +13,4 @@ returns c =
     c .before .encrypt .ensures ∙ ap (encryptedBatch w32 (a .n) (a .schedule .now)) (c .before .before .before .before .before .zeros .ensures)
 
 pub encrypted-zeros-spec : {M : Type 1} → statement M
-encrypted-zeros-spec =
-    tie.close
-    (tie.spec
-    (λ c κs. search needs)
-    (λ c κs. search needs)
-    (λ c. search needs)
-    (λ c. search needs)
-    (λ c κs. search needs)
-    returns)
+encrypted-zeros-spec = tie.close (tie.spec (λ c κs. search needs) (λ c κs. search needs) (λ c. search needs) (λ c. search needs) (λ c κs. search needs) returns)

@@ -27,13 +27,4 @@ returns-4 c =
     crypt-0 (decryptedBatch w64) 64 _ _ _ (d .before .before .before .rounds-of .ensures) (d .before .before .if1 .left) (d .before .if2 .left) (d .if3 .left) (c .before .before .decrypt .ensures)
 
 pub decrypt-spec : {M : Type 1} → statement M
-decrypt-spec =
-    tie.close
-    (tie.spec
-    (λ c κs. search needs)
-    returns
-    returns-2
-    returns-3
-    decrypt-requires
-    (λ c. search needs)
-    returns-4)
+decrypt-spec = tie.close (tie.spec (λ c κs. search needs) returns returns-2 returns-3 decrypt-requires (λ c. search needs) returns-4)

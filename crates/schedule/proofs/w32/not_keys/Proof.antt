@@ -12,10 +12,10 @@ use Rattle.schedule.proofs.w32.not_keys.Statement.{statement}
 use Rattle.schedule.proofs.w32.not_keys.Tie as tie
 
 abbrev Inv-loop : tie.InvT-loop
-Inv-loop rkeys₀ end r₀ rkeys r = (1 ≤ r) × (r ≤ end) × (length rkeys ≡ length rkeys₀) × Adjusted w32 (λ r. add63) r rkeys₀ rkeys
+Inv-loop rkeys₀ end i₀ rkeys i = (1 ≤ i) × (i ≤ end) × (length rkeys ≡ length rkeys₀) × Adjusted w32 (λ r. add63) i rkeys₀ rkeys
 
 abbrev μ-loop : tie.MeasureT-loop
-μ-loop rkeys₀ end r₀ rkeys r = end - r
+μ-loop rkeys₀ end i₀ rkeys i = end - i
 
 loop-holds : tie.Need-loop-holds Inv-loop μ-loop
 loop-holds c = (search needs, search needs, search needs, adjusted-none w32 _ _)
@@ -23,14 +23,14 @@ loop-holds c = (search needs, search needs, search needs, adjusted-none w32 _ _)
 loop-again : tie.Need-loop-again Inv-loop μ-loop
 loop-again c =
     let q = c .before .before .before .before .before .loop in
-    let k : 8 * q .r + 8 - 8 * q .r ≡ 8 = omega arith in
-    let t = adjusted-lent w32 _ (q .r) _ k (q .inv .0) (search needs) (q .inv .2) (c .before .before .sub-bytes-nots-in .kept .0 ∙ search needs) (q .inv .3) (c .before .before .sub-bytes-nots-in .ensures) in
+    let k : 8 * q .i + 8 - 8 * q .i ≡ 8 = omega arith in
+    let t = adjusted-lent w32 _ (q .i) _ k (q .inv .0) (search needs) (q .inv .2) (c .before .before .sub-bytes-nots-in .kept .0 ∙ search needs) (q .inv .3) (c .before .before .sub-bytes-nots-in .ensures) in
     (search needs, search needs, t .0, t .1)
 
 returns : tie.Need-returns Inv-loop μ-loop
 returns c =
     let q = c .before .loop in
-    let e : q .r ≡ c .before .before .before .args .end = omega arith in
+    let e : q .i ≡ c .before .before .before .args .end = omega arith in
     rw e at (q .inv .3)
 
 pub not-keys-spec : {M : Type 1} → statement M

@@ -21,14 +21,17 @@ loop-holds c = (search needs, search needs, keys-first w64 8 (omega arith) (omeg
 
 loop-again : tie.Need-loop-again Inv-loop μ-loop
 loop-again c =
-    let q = c .before .before .before .before .before .before .before .before .before .before .loop in
-    let k = keys-256 w64 (q .rcon) (q .inv .0) (q .inv .1) (c .before .before .before .before .before .before .before .next-key .kept .0) (c .before .before .before .before .before .before .before .before .round-constant .ensures) (q .inv .2) (c .before .before .before .before .before .before .before .next-key .ensures) in
-    (search needs, search needs, keys-256-plain w64 (q .rcon + 1) (search needs) (search needs) (c .before .before .before .before .before .before .before .next-key .kept .0 ∙ q .inv .1) (c .before .before .next-key-plain .kept .0) k (c .before .before .next-key-plain .ensures))
+    let plain = c .before .before in
+    let next = plain .before .before .before .before .before in
+    let q = next .before .before .before .loop in
+    let k = keys-256 w64 (q .rcon) (q .inv .0) (q .inv .1) (next .next-key .kept .0) (next .before .round-constant .ensures) (q .inv .2) (next .next-key .ensures) in
+    (search needs, search needs, keys-256-plain w64 (q .rcon + 1) (search needs) (search needs) (next .next-key .kept .0 ∙ q .inv .1) (plain .next-key-plain .kept .0) k (plain .next-key-plain .ensures))
 
 returns : tie.Need-returns Inv-loop μ-loop
 returns c =
-    let q = c .before .before .before .before .before .before .loop in
-    rw (c .if1 .taken) at (keys-256 w64 (q .rcon) (q .inv .0) (q .inv .1) (c .before .before .before .next-key .kept .0) (c .before .before .before .before .round-constant .ensures) (q .inv .2) (c .before .before .before .next-key .ensures))
+    let next = c .before .before .before in
+    let q = next .before .before .before .loop in
+    rw (c .if1 .taken) at (keys-256 w64 (q .rcon) (q .inv .0) (q .inv .1) (next .next-key .kept .0) (next .before .round-constant .ensures) (q .inv .2) (next .next-key .ensures))
 
 pub expand-256-spec : {M : Type 1} → statement M
 expand-256-spec =

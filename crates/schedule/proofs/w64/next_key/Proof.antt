@@ -10,11 +10,14 @@ use Rattle.schedule.proofs.w64.next_key.Tie as tie
 
 returns : tie.Need-returns
 returns c =
-    let start = c .before .before .before .before .before .before .before .before .before .before .before .before .before in
+    let columns = c .before .before in
+    let pass = columns .before .before .before .before in
+    let copy = pass .before .before .before .before in
+    let start = copy .before .before .before in
     let a = start .args in
     let k : a .off + 16 - (a .off + 8) ≡ 8 = omega arith in
-    next-lent w64 1 (a .idx-xor) (a .off) _ k (start .pre .2) (start .pre .0) (start .pre .1) (c .before .before .before .before .before .before .before .before .before .before .memshift32 .kept .0) (c .before .before .before .before .before .before .key-pass .kept .0 ∙ search needs) (c .before .before .xor-columns .kept .0)
-    (c .before .before .before .before .before .before .before .before .before .before .memshift32 .ensures) (c .before .before .before .before .before .before .key-pass .ensures) (c .before .before .xor-columns .ensures)
+    next-lent w64 1 (a .idx-xor) (a .off) _ k (start .pre .2) (start .pre .0) (start .pre .1) (copy .memshift32 .kept .0) (pass .key-pass .kept .0 ∙ search needs) (columns .xor-columns .kept .0)
+    (copy .memshift32 .ensures) (pass .key-pass .ensures) (columns .xor-columns .ensures)
 
 pub next-key-spec : {M : Type 1} → statement M
 next-key-spec =

@@ -10,8 +10,4 @@ returns : tie.Need-returns
 returns c = record { each = λ b h. c .shift-rows-2 .ensures .each b h ∙ unshift-2 w32 (c .before .args .state) b }
 
 pub inv-shift-rows-2-spec : {M : Type 1} → statement M
-inv-shift-rows-2-spec =
-    tie.close
-    (tie.spec
-    (λ c κs. search needs)
-    returns)
+inv-shift-rows-2-spec = tie.close (tie.spec (λ c κs. search needs) returns)

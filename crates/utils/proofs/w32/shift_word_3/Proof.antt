@@ -10,9 +10,4 @@ returns : tie.Need-returns
 returns c = c .delta-swap-12 .ensures ∙ ap (deltaSwap1 (words w32) w32 (quarterRow w32) (packRows w32 0 0x33 0 0x33)) (c .before .delta-swap-1 .ensures)
 
 pub shift-word-3-spec : {M : Type 1} → statement M
-shift-word-3-spec =
-    tie.close
-    (tie.spec
-    (λ c κs. search needs)
-    (λ c κs. search needs)
-    returns)
+shift-word-3-spec = tie.close (tie.spec (λ c κs. search needs) (λ c κs. search needs) returns)

@@ -11,24 +11,4 @@ returns : tie.Need-returns
 returns c = let f : length (c .args .t2) ≡ 8 = search needs in eight-stored (c .args .part .now) (c .args .t2) (c .pre) f
 
 pub store-spec : {M : Type 1} → statement M
-store-spec =
-    tie.close
-    (tie.spec
-    (λ c. search needs)
-    (λ c. search needs)
-    (λ c. search needs)
-    (λ c. simp length-set (omega arith))
-    (λ c. search needs)
-    (λ c. simp length-set (omega arith))
-    (λ c. search needs)
-    (λ c. simp length-set (omega arith))
-    (λ c. search needs)
-    (λ c. simp length-set (omega arith))
-    (λ c. search needs)
-    (λ c. simp length-set (omega arith))
-    (λ c. search needs)
-    (λ c. simp length-set (omega arith))
-    (λ c. search needs)
-    (λ c. simp length-set (omega arith))
-    (λ c. simp length-set)
-    returns)
+store-spec = tie.close (tie.spec (λ c. search needs) (λ c. search needs) (λ c. search needs) (λ c. simp length-set (omega arith)) (λ c. search needs) (λ c. simp length-set (omega arith)) (λ c. search needs) (λ c. simp length-set (omega arith)) (λ c. search needs) (λ c. simp length-set (omega arith)) (λ c. search needs) (λ c. simp length-set (omega arith)) (λ c. search needs) (λ c. simp length-set (omega arith)) (λ c. search needs) (λ c. simp length-set (omega arith)) (λ c. simp length-set) returns)

@@ -12,10 +12,4 @@ returns : tie.Need-returns
 returns c = ap (columnOf (words w64) w64 (c .before .args .prev)) (c .ror .ensures)
 
 pub xor-column-spec : {M : Type 1} → statement M
-xor-column-spec =
-    tie.close
-    (tie.spec
-    (λ c. search needs)
-    (λ c. search needs)
-    (λ c κs. search needs)
-    returns)
+xor-column-spec = tie.close (tie.spec (λ c. search needs) (λ c. search needs) (λ c κs. search needs) returns)

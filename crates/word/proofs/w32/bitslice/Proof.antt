@@ -10,9 +10,4 @@ returns : tie.Need-returns
 returns c = packs w32 (byte-fit (c .before .before .before .args .input .now) (c .before .before .shared-slice-known .given)) (c .before .before .before .pre) (c .before .load .ensures) (c .bitslice-swaps .ensures)
 
 pub bitslice-spec : {M : Type 1} → statement M
-bitslice-spec =
-    tie.close
-    (tie.spec
-    (λ c κs. search needs)
-    (λ c κs. search needs)
-    returns)
+bitslice-spec = tie.close (tie.spec (λ c κs. search needs) (λ c κs. search needs) returns)

@@ -9,10 +9,4 @@ returns : tie.Need-returns
 returns c = swaps-calls w32 (c .before .before .before .args .t) (c .before .before .swaps-1 .ensures) (c .before .swaps-2 .ensures) (c .swaps-4 .ensures)
 
 pub bitslice-swaps-spec : {M : Type 1} → statement M
-bitslice-swaps-spec =
-    tie.close
-    (tie.spec
-    (λ c κs. search needs)
-    (λ c κs. search needs)
-    (λ c κs. search needs)
-    returns)
+bitslice-swaps-spec = tie.close (tie.spec (λ c κs. search needs) (λ c κs. search needs) (λ c κs. search needs) returns)

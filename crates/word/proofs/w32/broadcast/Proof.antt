@@ -21,12 +21,4 @@ returns c =
     (c .bitslice-swaps .ensures)
 
 pub broadcast-spec : {M : Type 1} → statement M
-broadcast-spec =
-    tie.close
-    (tie.spec
-    (λ c κs. search needs)
-    (λ c κs. search needs)
-    (λ c κs. search needs)
-    (λ c κs. search needs)
-    (λ c κs. search needs)
-    returns)
+broadcast-spec = tie.close (tie.spec (λ c κs. search needs) (λ c κs. search needs) (λ c κs. search needs) (λ c κs. search needs) (λ c κs. search needs) returns)

@@ -1,0 +1,119 @@
+// One line for each public call, on buffers of the lengths that are given, which are the front of longer ones.
+ghost use mathlib.Core.Path.{_≡_};
+ghost use Prim.Native.Nat.{_≤_};
+ghost use lib.ListN.{length};
+use crate::w32;
+use crate::w64;
+
+pub fn say_answer(number: u32, kept: bool, apart: bool) {
+    hex::say_count(b" -> ", number as usize);
+    if !apart {
+        hex::say(b" spilled\n");
+    } else if kept {
+        hex::say(b" kept\n");
+    } else {
+        hex::say(b" written\n");
+    }
+}
+
+// The buffer was the first n of these bytes, which were all 5a.
+fn say_bytes(number: u32, space: &[u8], n: usize)
+    requires { ⌜ (length (now space) ≡ 66) × (n ≤ 66) ⌝ }
+{
+    let before = [0x5au8; 66];
+    let kept = check::same(&space[0..n], &before[0..n]);
+    let apart = check::same(&space[n..], &before[n..]);
+    say_answer(number, kept, apart);
+}
+
+pub fn expand(bits: usize, key: usize, words: usize)
+    requires { ⌜ (key ≤ 33) × (words ≤ 121) ⌝ }
+{
+    hex::say_count(b"expand", bits);
+    hex::say_count(b" key ", key);
+    hex::say_count(b" schedule ", words);
+    if bits == 32 {
+        w32::expand(key, words);
+    } else {
+        w64::expand(key, words);
+    }
+}
+
+fn crypt_in(
+    space: &mut [u8],
+    bits: usize,
+    decrypts: bool,
+    words: usize,
+    input: usize,
+    output: usize,
+) -> u32
+    requires { ⌜ (output ≤ length (now space)) × (input ≤ 65) × (words ≤ 121) ⌝ }
+{
+    if bits == 32 {
+        w32::crypt(decrypts, words, input, &mut space[0..output])
+    } else {
+        w64::crypt(decrypts, words, input, &mut space[0..output])
+    }
+}
+
+pub fn crypt(bits: usize, decrypts: bool, words: usize, input: usize, output: usize)
+    requires { ⌜ (output ≤ 65) × (input ≤ 65) × (words ≤ 121) ⌝ }
+{
+    if decrypts {
+        hex::say_count(b"decrypt", bits);
+    } else {
+        hex::say_count(b"encrypt", bits);
+    }
+    hex::say_count(b" schedule ", words);
+    hex::say_count(b" input ", input);
+    hex::say_count(b" output ", output);
+    let mut space = [0x5au8; 66];
+    let number = crypt_in(&mut space, bits, decrypts, words, input, output);
+    say_bytes(number, &space, output);
+}
+
+fn check_in(space: &mut [u8], bits: usize, words: usize, output: usize) -> u32
+    requires { ⌜ (output ≤ length (now space)) × (words ≤ 121) ⌝ }
+{
+    if bits == 32 {
+        w32::check_value(words, &mut space[0..output])
+    } else {
+        w64::check_value(words, &mut space[0..output])
+    }
+}
+
+pub fn check_value(bits: usize, words: usize, output: usize)
+    requires { ⌜ (output ≤ 65) × (words ≤ 121) ⌝ }
+{
+    hex::say_count(b"check_value", bits);
+    hex::say_count(b" schedule ", words);
+    hex::say_count(b" output ", output);
+    let mut space = [0x5au8; 66];
+    let number = check_in(&mut space, bits, words, output);
+    say_bytes(number, &space, output);
+}
+
+fn door_in(space: &mut [u8], direction: u32, key: usize, input: usize, output: usize) -> u32
+    requires { ⌜ (output ≤ length (now space)) × (input ≤ 65) × (key ≤ 33) ⌝ }
+{
+    let key_bytes = [0x11u8; 33];
+    let batch = [0x22u8; 65];
+    host::locker_aes(
+        direction,
+        &key_bytes[0..key],
+        &batch[0..input],
+        &mut space[0..output],
+    )
+}
+
+pub fn door(direction: u32, key: usize, input: usize, output: usize)
+    requires { ⌜ (output ≤ 65) × (input ≤ 65) × (key ≤ 33) ⌝ }
+{
+    hex::say_count(b"locker_aes direction ", direction as usize);
+    hex::say_count(b" key ", key);
+    hex::say_count(b" input ", input);
+    hex::say_count(b" output ", output);
+    let mut space = [0x5au8; 66];
+    let number = door_in(&mut space, direction, key, input, output);
+    say_bytes(number, &space, output);
+}

@@ -1,0 +1,60 @@
+// Calls each public call at both sides of each limit, and prints a line `CALL LENGTHS -> NUMBER kept` for each; `written` where the buffer
+// that was lent is not as it was, `spilled` where what lies past it is not. tools/limits_expected.py states the table and made the file stdout.
+mod calls;
+mod lengths;
+mod w32;
+mod w64;
+
+ghost use Prim.Native.Nat.{_≤_};
+
+fn expands(bits: usize) {
+    for i in 0..72 {
+        calls::expand(bits, lengths::key(i / 8), lengths::schedule(i % 8));
+    }
+}
+
+fn crypts(bits: usize, decrypts: bool)
+    requires { ⌜ (1 ≤ bits) × (bits ≤ 64) ⌝ }
+{
+    for i in 0..200 {
+        calls::crypt(
+            bits,
+            decrypts,
+            lengths::schedule(i / 25),
+            lengths::batch(i / 5 % 5, bits),
+            lengths::batch(i % 5, bits),
+        );
+    }
+}
+
+fn check_values(bits: usize) {
+    for i in 0..40 {
+        calls::check_value(bits, lengths::schedule(i / 5), i % 5);
+    }
+}
+
+fn doors() {
+    for i in 0..900 {
+        calls::door(
+            lengths::direction(i / 225),
+            lengths::key(i / 25 % 9),
+            lengths::batch(i / 5 % 5, 64),
+            lengths::batch(i % 5, 64),
+        );
+    }
+}
+
+fn at_width(bits: usize)
+    requires { ⌜ (1 ≤ bits) × (bits ≤ 64) ⌝ }
+{
+    expands(bits);
+    crypts(bits, false);
+    crypts(bits, true);
+    check_values(bits);
+}
+
+fn main() {
+    at_width(32);
+    at_width(64);
+    doors();
+}

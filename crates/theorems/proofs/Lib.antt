@@ -1,0 +1,4 @@
+pub mod Theorems
+pub mod Wrong
+pub mod WrongExpand
+pub mod WrongOthers

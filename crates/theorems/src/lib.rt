@@ -1,0 +1,1 @@
+// The theorems of the public calls, no code: see proofs/Theorems.antt.

@@ -1,0 +1,48 @@
+#!/usr/bin/env python3
+"""Writes crates/limits_main/stdout: what each public call must answer at both sides of each limit, and at lengths 0 and 1.
+
+It states docs/SCOPE.md's table by itself and runs none of our code: the numbers of the refusals, lowest first, and that a
+refused call leaves the buffer as it was (`kept`), while answer 0 has written it whole (`written`).
+"""
+import itertools, os
+
+KEYS = [0, 1, 15, 16, 17, 24, 31, 32, 33]
+SCHEDULES = [0, 1, 87, 88, 89, 119, 120, 121]
+DIRECTIONS = [0, 1, 2, 0xffffffff]
+WORDS_FOR = {16: 88, 32: 120}  # the schedule's words for a key of so many bytes
+
+
+def lowest(*refusals):
+    """The lowest number whose test applies, or 0."""
+    return min((number for number, applies in refusals if applies), default=0)
+
+
+def around(full):
+    return [0, 1, full - 1, full, full + 1]
+
+
+def calls():
+    """(the call with its lengths, its answer), in the program's order."""
+    for bits in (32, 64):
+        for key, words in itertools.product(KEYS, SCHEDULES):
+            yield f"expand{bits} key {key} schedule {words}", lowest((1, key not in WORDS_FOR), (2, words != WORDS_FOR.get(key)))
+        for name in ("encrypt", "decrypt"):
+            for words, given, taken in itertools.product(SCHEDULES, around(bits), around(bits)):
+                yield f"{name}{bits} schedule {words} input {given} output {taken}", lowest(
+                    (2, words not in WORDS_FOR.values()), (3, given != bits), (4, taken != bits))
+        for words, taken in itertools.product(SCHEDULES, range(5)):
+            yield f"check_value{bits} schedule {words} output {taken}", lowest((2, words not in WORDS_FOR.values()), (4, taken != 3))
+    for direction, key, given, taken in itertools.product(DIRECTIONS, KEYS, around(64), around(64)):
+        yield f"locker_aes direction {direction} key {key} input {given} output {taken}", lowest(
+            (1, key not in WORDS_FOR), (3, given != 64), (4, taken != 64), (5, direction not in (0, 1)))
+
+
+def main():
+    lines = [f"{call} -> {number} {'kept' if number else 'written'}\n" for call, number in calls()]
+    path = os.path.join(os.path.dirname(os.path.abspath(__file__)), "../crates/limits_main/stdout")
+    with open(path, "w") as file:
+        file.writelines(lines)
+    print(f"ok limits: {len(lines)} calls in crates/limits_main/stdout")
+
+
+main()
