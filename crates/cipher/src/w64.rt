@@ -5,8 +5,14 @@ ghost use lib.ListN.{length};
 ghost use Rattle.lanes.specs.Layout.{w64, Does};
 ghost use Rattle.lanes.specs.Schedule.{encryptedBatch, decryptedBatch};
 ghost use Rattle.cipher.specs.Fixslice.{roundsIn, undoneIn};
-use mix_columns::w64::inv_mix_columns;
-use mix_columns::w64::mix_columns;
+use mix_columns::w64::inv_mix_columns_0;
+use mix_columns::w64::inv_mix_columns_1;
+use mix_columns::w64::inv_mix_columns_2;
+use mix_columns::w64::inv_mix_columns_3;
+use mix_columns::w64::mix_columns_0;
+use mix_columns::w64::mix_columns_1;
+use mix_columns::w64::mix_columns_2;
+use mix_columns::w64::mix_columns_3;
 use sbox::w64::inv_sub_bytes;
 use sbox::w64::sub_bytes;
 use utils::w64::add_round_key;
@@ -23,14 +29,14 @@ fn rounds(first: [u64; 8], rkeys: &[u64], last: usize) -> [u64; 8]
     let mut state = first;
     let mut off: usize = 8;
     loop {
-        let s1 = add_round_key(mix_columns(sub_bytes(state), 1), &rkeys[off..off + 8]);
+        let s1 = add_round_key(mix_columns_1(sub_bytes(state)), &rkeys[off..off + 8]);
         off += 8;
         if off == last {
             break s1;
         }
-        let s2 = add_round_key(mix_columns(sub_bytes(s1), 2), &rkeys[off..off + 8]);
-        let s3 = add_round_key(mix_columns(sub_bytes(s2), 3), &rkeys[off + 8..off + 16]);
-        state = add_round_key(mix_columns(sub_bytes(s3), 0), &rkeys[off + 16..off + 24]);
+        let s2 = add_round_key(mix_columns_2(sub_bytes(s1)), &rkeys[off..off + 8]);
+        let s3 = add_round_key(mix_columns_3(sub_bytes(s2)), &rkeys[off + 8..off + 16]);
+        state = add_round_key(mix_columns_0(sub_bytes(s3)), &rkeys[off + 16..off + 24]);
         off += 24;
     }
 }
@@ -56,14 +62,14 @@ fn unrounds(first: [u64; 8], rkeys: &[u64], last: usize) -> [u64; 8]
     let mut state = first;
     let mut off: usize = last - 8;
     loop {
-        let t1 = inv_sub_bytes(inv_mix_columns(add_round_key(state, &rkeys[off..off + 8]), 1));
+        let t1 = inv_sub_bytes(inv_mix_columns_1(add_round_key(state, &rkeys[off..off + 8])));
         if off == 8 {
             break t1;
         }
         off -= 32;
-        let t2 = inv_sub_bytes(inv_mix_columns(add_round_key(t1, &rkeys[off + 24..off + 32]), 0));
-        let t3 = inv_sub_bytes(inv_mix_columns(add_round_key(t2, &rkeys[off + 16..off + 24]), 3));
-        state = inv_sub_bytes(inv_mix_columns(add_round_key(t3, &rkeys[off + 8..off + 16]), 2));
+        let t2 = inv_sub_bytes(inv_mix_columns_0(add_round_key(t1, &rkeys[off + 24..off + 32])));
+        let t3 = inv_sub_bytes(inv_mix_columns_3(add_round_key(t2, &rkeys[off + 16..off + 24])));
+        state = inv_sub_bytes(inv_mix_columns_2(add_round_key(t3, &rkeys[off + 8..off + 16])));
     }
 }
 

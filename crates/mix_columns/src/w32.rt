@@ -152,26 +152,90 @@ fn inv_mix_outer(d: [u32; 8], e: [u32; 8], s: [u32; 8]) -> [u32; 8]
     ]
 }
 
-// MixColumns on a state that lacks `form` of FIPS-197's row shifts: the Rust's mix_columns_0 to mix_columns_3, after Käsper and Schwabe.
-pub fn mix_columns(state: [u32; 8], form: u32) -> [u32; 8]
-    requires { ⌜ form < 4 ⌝ }
-    ensures { λ r. ⌜ Does w32 (all (mixForm form)) state r ⌝ }
+// MixColumns on a whole state. The forms are the Rust's, after Käsper and Schwabe.
+pub fn mix_columns_0(state: [u32; 8]) -> [u32; 8]
+    ensures { λ r. ⌜ Does w32 (all (mixForm 0)) state r ⌝ }
 {
-    let b = first_rotates(state, form);
+    let b = first_rotates(state, 0); // rotate_rows_1
     let c = sums(state, b);
-    let s = second_rotates(c, form);
+    let s = second_rotates(c, 0); // rotate_rows_2
     mix_outer(b, c, s)
 }
 
-// InvMixColumns on such a state: the Rust's inv_mix_columns_0 to inv_mix_columns_3.
-pub fn inv_mix_columns(state: [u32; 8], form: u32) -> [u32; 8]
-    requires { ⌜ form < 4 ⌝ }
-    ensures { λ r. ⌜ Does w32 (all (invMixForm form)) state r ⌝ }
+// MixColumns on a state that lacks one of FIPS-197's row shifts.
+pub fn mix_columns_1(state: [u32; 8]) -> [u32; 8]
+    ensures { λ r. ⌜ Does w32 (all (mixForm 1)) state r ⌝ }
 {
-    let b = first_rotates(state, form);
+    let b = first_rotates(state, 1); // rotate_rows_and_columns_1_1
+    let c = sums(state, b);
+    let s = second_rotates(c, 1); // rotate_rows_and_columns_2_2
+    mix_outer(b, c, s)
+}
+
+// MixColumns on a state that lacks two.
+pub fn mix_columns_2(state: [u32; 8]) -> [u32; 8]
+    ensures { λ r. ⌜ Does w32 (all (mixForm 2)) state r ⌝ }
+{
+    let b = first_rotates(state, 2); // rotate_rows_and_columns_1_2
+    let c = sums(state, b);
+    let s = second_rotates(c, 2); // rotate_rows_2
+    mix_outer(b, c, s)
+}
+
+// MixColumns on a state that lacks three.
+pub fn mix_columns_3(state: [u32; 8]) -> [u32; 8]
+    ensures { λ r. ⌜ Does w32 (all (mixForm 3)) state r ⌝ }
+{
+    let b = first_rotates(state, 3); // rotate_rows_and_columns_1_3
+    let c = sums(state, b);
+    let s = second_rotates(c, 3); // rotate_rows_and_columns_2_2
+    mix_outer(b, c, s)
+}
+
+// InvMixColumns on a whole state.
+pub fn inv_mix_columns_0(state: [u32; 8]) -> [u32; 8]
+    ensures { λ r. ⌜ Does w32 (all (invMixForm 0)) state r ⌝ }
+{
+    let b = first_rotates(state, 0); // as in mix_columns_0
     let c = sums(state, b);
     let d = inv_mix_d(state, c);
     let e = inv_mix_e(c, d);
-    let s = second_rotates(e, form);
+    let s = second_rotates(e, 0);
+    inv_mix_outer(d, e, s)
+}
+
+// InvMixColumns on a state that lacks one row shift.
+pub fn inv_mix_columns_1(state: [u32; 8]) -> [u32; 8]
+    ensures { λ r. ⌜ Does w32 (all (invMixForm 1)) state r ⌝ }
+{
+    let b = first_rotates(state, 1); // as in mix_columns_1
+    let c = sums(state, b);
+    let d = inv_mix_d(state, c);
+    let e = inv_mix_e(c, d);
+    let s = second_rotates(e, 1);
+    inv_mix_outer(d, e, s)
+}
+
+// InvMixColumns on a state that lacks two.
+pub fn inv_mix_columns_2(state: [u32; 8]) -> [u32; 8]
+    ensures { λ r. ⌜ Does w32 (all (invMixForm 2)) state r ⌝ }
+{
+    let b = first_rotates(state, 2); // as in mix_columns_2
+    let c = sums(state, b);
+    let d = inv_mix_d(state, c);
+    let e = inv_mix_e(c, d);
+    let s = second_rotates(e, 2);
+    inv_mix_outer(d, e, s)
+}
+
+// InvMixColumns on a state that lacks three.
+pub fn inv_mix_columns_3(state: [u32; 8]) -> [u32; 8]
+    ensures { λ r. ⌜ Does w32 (all (invMixForm 3)) state r ⌝ }
+{
+    let b = first_rotates(state, 3); // as in mix_columns_3
+    let c = sums(state, b);
+    let d = inv_mix_d(state, c);
+    let e = inv_mix_e(c, d);
+    let s = second_rotates(e, 3);
     inv_mix_outer(d, e, s)
 }

@@ -38,10 +38,10 @@ loop-again c =
       t .0,
       t .1,
       turned w32 _ (l .off) (l .inv .0) (l .inv .2)
-          (round-is w32 _ (l .off) 1 _ (eight-8 (l .off)) (c .before .before .before .before .before .before .before .before .before .before .before .before .before .before .before .before .sub-bytes .ensures) (c .before .before .before .before .before .before .before .before .before .before .before .before .before .before .before .mix-columns .ensures) (c .before .before .before .before .before .before .before .before .before .before .before .before .before .add-round-key .ensures))
-          (round-is w32 _ (l .off + 8) 2 _ (eight-8 (l .off + 8)) (c .before .before .before .before .before .before .before .before .before .before .before .sub-bytes2 .ensures) (c .before .before .before .before .before .before .before .before .before .before .mix-columns2 .ensures) (c .before .before .before .before .before .before .before .before .add-round-key2 .ensures))
-          (round-is w32 _ (l .off + 8 + 8) 3 _ (eight-16 (l .off + 8)) (c .before .before .before .before .before .before .before .sub-bytes3 .ensures) (c .before .before .before .before .before .before .mix-columns3 .ensures) (c .before .before .before .before .add-round-key3 .ensures))
-          (round-is w32 _ (l .off + 8 + 16) 0 _ (eight-24 (l .off + 8)) (c .before .before .before .sub-bytes4 .ensures) (c .before .before .mix-columns4 .ensures) (c .add-round-key4 .ensures)),
+          (round-is w32 _ (l .off) 1 _ (eight-8 (l .off)) (c .before .before .before .before .before .before .before .before .before .before .before .before .before .before .before .before .sub-bytes .ensures) (c .before .before .before .before .before .before .before .before .before .before .before .before .before .before .before .mix-columns-1 .ensures) (c .before .before .before .before .before .before .before .before .before .before .before .before .before .add-round-key .ensures))
+          (round-is w32 _ (l .off + 8) 2 _ (eight-8 (l .off + 8)) (c .before .before .before .before .before .before .before .before .before .before .before .sub-bytes2 .ensures) (c .before .before .before .before .before .before .before .before .before .before .mix-columns-2 .ensures) (c .before .before .before .before .before .before .before .before .add-round-key2 .ensures))
+          (round-is w32 _ (l .off + 8 + 8) 3 _ (eight-16 (l .off + 8)) (c .before .before .before .before .before .before .before .sub-bytes3 .ensures) (c .before .before .before .before .before .before .mix-columns-3 .ensures) (c .before .before .before .before .add-round-key3 .ensures))
+          (round-is w32 _ (l .off + 8 + 16) 0 _ (eight-24 (l .off + 8)) (c .before .before .before .sub-bytes4 .ensures) (c .before .before .mix-columns-0 .ensures) (c .add-round-key4 .ensures)),
     )
 
 returns : tie.Need-returns Inv-loop μ-loop
@@ -49,7 +49,7 @@ returns c =
     let l = c .before .before .before .before .before .loop in
     let p = l .inv .0 in
     rw (sym (c .if1 .taken)) (one w32 _ (l .off) 1 (omega (arith, p)) (omega (arith, p)) (omega (arith, p)) (l .inv .2)
-    (round-is w32 _ (l .off) 1 _ (eight-8 (l .off)) (c .before .before .before .before .sub-bytes .ensures) (c .before .before .before .mix-columns .ensures) (c .before .add-round-key .ensures)))
+    (round-is w32 _ (l .off) 1 _ (eight-8 (l .off)) (c .before .before .before .before .sub-bytes .ensures) (c .before .before .before .mix-columns-1 .ensures) (c .before .add-round-key .ensures)))
 
 pub rounds-spec : {M : Type 1} → statement M
 rounds-spec = tie.close (tie.spec Inv-loop μ-loop loop-holds (λ c κs. search needs) (λ c κs. search needs) (λ c. search needs) (λ c. search needs) (λ c. search needs) (λ c. search needs) (λ c. search needs) (λ c κs. search needs) (λ c. search needs) (λ c κs. search needs) (λ c κs. search needs) (λ c. search needs) (λ c. search needs) (λ c. search needs) (λ c. search needs) (λ c. search needs) (λ c κs. search needs) (λ c κs. search needs) (λ c κs. search needs) (λ c. search needs) (λ c. search needs) (λ c. search needs) (λ c. search needs) (λ c. search needs) (λ c. search needs) (λ c κs. search needs) (λ c κs. search needs) (λ c κs. search needs) (λ c. omega (arith, room (c .before .before .before .before .before .before .before .before .before .before))) (λ c. omega (arith, room (c .before .before .before .before .before .before .before .before .before .before))) (λ c. omega (arith, room (c .before .before .before .before .before .before .before .before .before .before))) (λ c. omega (arith, room (c .before .before .before .before .before .before .before .before .before .before))) (λ c. omega (arith, room (c .before .before .before .before .before .before .before .before .before .before))) (λ c. omega (arith, room (c .before .before .before .before .before .before .before .before .before .before))) (λ c κs. search needs) (λ c. omega (arith, room (c .before .before .before .before .before .before .before .before .before .before .before .before))) loop-less loop-again returns)

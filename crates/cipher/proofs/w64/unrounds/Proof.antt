@@ -37,17 +37,17 @@ loop-again c =
       t .1,
       t .2,
       unturned (l .off) (l .inv .0) (t .0) (l .inv .2)
-          (unround-is w64 _ (l .off) 1 _ (eight-8 (l .off)) (c .before .before .before .before .before .before .before .before .before .before .before .before .before .before .before .add-round-key .ensures) (c .before .before .before .before .before .before .before .before .before .before .before .before .before .before .inv-mix-columns .ensures) (c .before .before .before .before .before .before .before .before .before .before .before .before .before .inv-sub-bytes .ensures))
-          (unround-is w64 _ (l .off - 32 + 24) 0 _ (eight-32 (l .off - 32)) (c .before .before .before .before .before .before .before .before .before .before .add-round-key2 .ensures) (c .before .before .before .before .before .before .before .before .before .inv-mix-columns2 .ensures) (c .before .before .before .before .before .before .before .before .inv-sub-bytes2 .ensures))
-          (unround-is w64 _ (l .off - 32 + 16) 3 _ (eight-24 (l .off - 32)) (c .before .before .before .before .before .before .add-round-key3 .ensures) (c .before .before .before .before .before .inv-mix-columns3 .ensures) (c .before .before .before .before .inv-sub-bytes3 .ensures))
-          (unround-is w64 _ (l .off - 32 + 8) 2 _ (eight-16 (l .off - 32)) (c .before .before .add-round-key4 .ensures) (c .before .inv-mix-columns4 .ensures) (c .inv-sub-bytes4 .ensures)),
+          (unround-is w64 _ (l .off) 1 _ (eight-8 (l .off)) (c .before .before .before .before .before .before .before .before .before .before .before .before .before .before .before .add-round-key .ensures) (c .before .before .before .before .before .before .before .before .before .before .before .before .before .before .inv-mix-columns-1 .ensures) (c .before .before .before .before .before .before .before .before .before .before .before .before .before .inv-sub-bytes .ensures))
+          (unround-is w64 _ (l .off - 32 + 24) 0 _ (eight-32 (l .off - 32)) (c .before .before .before .before .before .before .before .before .before .before .add-round-key2 .ensures) (c .before .before .before .before .before .before .before .before .before .inv-mix-columns-0 .ensures) (c .before .before .before .before .before .before .before .before .inv-sub-bytes2 .ensures))
+          (unround-is w64 _ (l .off - 32 + 16) 3 _ (eight-24 (l .off - 32)) (c .before .before .before .before .before .before .add-round-key3 .ensures) (c .before .before .before .before .before .inv-mix-columns-3 .ensures) (c .before .before .before .before .inv-sub-bytes3 .ensures))
+          (unround-is w64 _ (l .off - 32 + 8) 2 _ (eight-16 (l .off - 32)) (c .before .before .add-round-key4 .ensures) (c .before .inv-mix-columns-2 .ensures) (c .inv-sub-bytes4 .ensures)),
     )
 
 returns : tie.Need-returns Inv-loop μ-loop
 returns c =
     let l = c .before .before .before .before .before .loop in
     undone (l .off) (c .if1 .taken) (l .inv .2)
-    (unround-is w64 _ (l .off) 1 _ (eight-8 (l .off)) (c .before .before .before .add-round-key .ensures) (c .before .before .inv-mix-columns .ensures) (c .before .inv-sub-bytes .ensures))
+    (unround-is w64 _ (l .off) 1 _ (eight-8 (l .off)) (c .before .before .before .add-round-key .ensures) (c .before .before .inv-mix-columns-1 .ensures) (c .before .inv-sub-bytes .ensures))
 
 pub unrounds-spec : {M : Type 1} → statement M
 unrounds-spec = tie.close (tie.spec Inv-loop μ-loop (λ c. search needs) loop-holds (λ c. search needs) (λ c. search needs) (λ c. search needs) (λ c. search needs) (λ c. search needs) (λ c κs. search needs) (λ c κs. search needs) (λ c κs. search needs) (λ c. omega (arith, turns c .0)) (λ c. omega (arith, room c)) (λ c. omega (arith, room c)) (λ c. omega (arith, room c)) (λ c. omega (arith, room c)) (λ c. omega (arith, room c)) (λ c. omega (arith, room c)) (λ c κs. search needs) (λ c κs. search needs) (λ c κs. search needs) (λ c. omega (arith, room (c .before .before .before .before))) (λ c. omega (arith, room (c .before .before .before .before))) (λ c. omega (arith, room (c .before .before .before .before))) (λ c. omega (arith, room (c .before .before .before .before))) (λ c. omega (arith, room (c .before .before .before .before))) (λ c. omega (arith, room (c .before .before .before .before))) (λ c κs. search needs) (λ c κs. search needs) (λ c κs. search needs) (λ c. omega (arith, room (c .before .before .before .before .before .before .before .before))) (λ c. omega (arith, room (c .before .before .before .before .before .before .before .before))) (λ c. omega (arith, room (c .before .before .before .before .before .before .before .before))) (λ c. omega (arith, room (c .before .before .before .before .before .before .before .before))) (λ c. omega (arith, room (c .before .before .before .before .before .before .before .before))) (λ c. omega (arith, room (c .before .before .before .before .before .before .before .before))) (λ c κs. search needs) (λ c κs. search needs) (λ c κs. search needs) loop-less loop-again returns)
