@@ -2,20 +2,20 @@
 -- the width and the direction. Assumes nothing.
 use mathlib.Core.Path.{_≡_, refl, sym, _∙_, ap}
 use mathlib.Core.Bool.{Bool, true, false, not}
-use mathlib.Core.List.{List, [], _∷_, _++_, append-nil}
-use Prim.Native.Nat.{ℕ, zero, suc, _+_, _*_, _%_, _<_, _≤_}
+use mathlib.Core.List.{List, _++_, append-nil}
+use Prim.Native.Nat.{ℕ, _+_, _*_, _%_, _≤_}
 use native.Mathlib.Omega.{arith}
-use borrow.Author.Tests.{eq-eqb, ne-eqb, eqb-true, eqb-false}
-use lib.Dec.{eqb, lit<, lit≤}
-use lib.ListN.{length, take, drop, replicate, drop-of-length-le}
+use borrow.Author.Tests.{eq-eqb, ne-eqb, eqb-true}
+use lib.Dec.{eqb, lit≤}
+use lib.ListN.{length, take, replicate, drop-of-length-le}
 use lib.Seq.{take-append-le, sets, sets-eq}
-use Rattle.fips197.specs.Aes.{Block, Fit, range, sixteen, roundsFor, cipher}
+use Rattle.fips197.specs.Aes.{Block, roundsFor, cipher}
 use Rattle.fips197.proofs.Blocks.{fit-test, reads, reads-part}
 use Rattle.fips197.proofs.Ciphers.{cipher-block}
-use Rattle.lanes.specs.Layout.{Width, w32, w64, slots, eachSlot, join}
+use Rattle.lanes.specs.Layout.{Width, w32, w64, slots}
 use Rattle.lanes.specs.Schedule.{reading, scheduleOf, encryptedBatch}
 use Rattle.cipher.proofs.Batches.{keys}
-use Rattle.aes.specs.Outcome.{Outcome, answers, refuse, pick, keyWordsOf, scheduleWords, roundsOf, expandOutcome, cryptOutcome, checkValue, checkOutcome}
+use Rattle.aes.specs.Outcome.{Outcome, answers, pick, keyWordsOf, scheduleWords, roundsOf, expandOutcome, cryptOutcome, checkValue, checkOutcome}
 
 -- ---- a promise settles the number and every byte: one law for every call
 pub settled : (out : Outcome) {r r′ : ℕ} {x x′ : List ℕ} → answers r x ≡ out → answers r′ x′ ≡ out → (r ≡ r′) × (x ≡ x′)

@@ -1,6 +1,5 @@
 -- What each public call answers and leaves, from its inputs alone: docs/SCOPE.md's table, one link for each refusal, in its order.
 -- A call's promise is the equation of its answer with its outcome.
-use mathlib.Core.Path.{_≡_}
 use mathlib.Core.Bool.{Bool, true, false, not}
 use mathlib.Core.List.{List}
 use Prim.Native.Nat.{ℕ, _+_, _*_}

@@ -1,42 +1,28 @@
 -- The fixslicing argument, once over the number of rounds and with no words in it: after r rounds the fixsliced state is FIPS-197's with r
 -- inverse row shifts, because SubBytes commutes with ShiftRows, form r of MixColumns is MixColumns between r row shifts, and the stored key
 -- r holds the same shifts and the missing 63. Decryption undoes encryption step by step, so it is InvCipher. Assumes nothing.
-use mathlib.Core.Path.{_≡_, refl, sym, ap, ap₂, _∙_, subst, subst₂}
-use mathlib.Core.List.{List, [], _∷_, _++_, map}
+use mathlib.Core.Path.{_≡_, refl, sym, ap, ap₂, _∙_, subst₂}
+use mathlib.Core.List.{List, _++_, map}
 use mathlib.Core.Bool.{Bool, true, false}
-use Prim.Native.Nat.{ℕ, zero, suc, _+_, _-_, _*_, _/_, _%_, _^_, _≤_, _<_}
+use Prim.Native.Nat.{ℕ, zero, suc, _+_, _-_, _*_, _%_, _≤_, _<_}
 use native.Mathlib.Omega.{arith}
 use native.Mathlib.Nat.{add-zero, zero-add}
 use native.Mathlib.Numerals.{add-one}
-use lib.Bits.{bitXor, xor-lt}
-use lib.Dec.{T, lit≤, eqb}
-use lib.ListN.{getD, length, length-map}
+use lib.Dec.{eqb}
+use lib.ListN.{getD}
 use borrow.Author.Tests.{eq-eqb, ne-eqb}
-use Rattle.fips197.specs.Aes.{Fit, Block, range, choose, product, xtime, subBytes, invSubBytes, shiftRows, invShiftRows, mixColumns, invMixColumns, addRoundKey, rounds, cipher, invCipher}
+use Rattle.fips197.specs.Aes.{Fit, Block, range, choose, product, xtime, subBytes, invSubBytes, shiftRows, invShiftRows, mixColumns, addRoundKey, rounds, cipher, invCipher}
 use Rattle.fips197.proofs.Layers.{Bytes, blockOf, shiftRowsOf, invShiftRowsOf, mixColumnsOf, addRoundKeyOf}
-use Rattle.fips197.proofs.Blocks.{reads, block-is, fit-append, fit-reads, fit-each, sub-block, invSub-block, shift-block, invShift-block, mix-block, invMix-block, add-block}
+use Rattle.fips197.proofs.Blocks.{reads, block-is, fit-append, fit-reads, sub-block, mix-block, invMix-block, add-block}
 use Rattle.fips197.proofs.Laws.{layers, sub-shift, invSub-sub, sub-invSub, shift-four, invMix-mix, mix-invMix, add-add}
 use Rattle.fips197.proofs.Ciphers.{Blocks, none, more, cipher-invCipher, invCipher-block}
 use Rattle.lanes.specs.Leaves.{add63, bareSubBytes, invBareSubBytes, rowsShifted, rowsUnshifted, mixForm, invMixForm}
 use Rattle.lanes.specs.Schedule.{readKey}
 use Rattle.lanes.proofs.Linear.{four}
+use Rattle.lanes.proofs.Rows.{add63-block, shifted-block, unshifted-block, add63-twice, unshifted-shifted, shifted-unshifted}
 use Rattle.cipher.specs.Fixslice.{roundsTo, fixCipher, undoneFrom, fixInvCipher}
 
 -- ---- blocks stay blocks
-pub add63-block : {s : List ℕ} → Block s → Block (add63 s)
-unfolding add63
-add63-block {s} b = record { long = length-map s _ ∙ b .long; bytes = fit-each (λ x. bitXor x 0x63) (λ x h. xor-lt 8 x 0x63 h (lib.Dec.lit< tt)) s (b .bytes) }
-
-pub shifted-block : {s : List ℕ} (n : ℕ) → Block s → Block (rowsShifted n s)
-unfolding rowsShifted
-shifted-block zero b = b
-shifted-block (suc n) b = shift-block (shifted-block n b)
-
-pub unshifted-block : {s : List ℕ} (n : ℕ) → Block s → Block (rowsUnshifted n s)
-unfolding rowsUnshifted
-unshifted-block zero b = b
-unshifted-block (suc n) b = invShift-block (unshifted-block n b)
-
 pub bare-block : {s : List ℕ} → Block s → Block (bareSubBytes s)
 unfolding bareSubBytes
 bare-block b = add63-block (sub-block b)
@@ -111,34 +97,14 @@ module _ {t k : List ℕ} (b : Block t) (d : Block k) where
       (layers 32 (λ A o l. addRoundKeyOf o (add63Of o (front o l)) (back o l)) (λ A o l. addRoundKeyOf o (front o l) (add63Of o (back o l))) (pairs t k) (pairs-fit b d) tt)
 
 -- ---- what undoes what
-pub add63-twice : {s : List ℕ} → Block s → add63 (add63 s) ≡ s
-unfolding add63
-add63-twice {s} b = subst (λ (x : List ℕ). add63 (add63 x) ≡ x) (block-is b) (layers 16 (λ A o l. add63Of o (add63Of o l)) (λ A o l. l) s (b .bytes) tt)
-
-pub unshifted-shifted : {s : List ℕ} → Block s → (n : ℕ) → n < 4 → rowsUnshifted n (rowsShifted n s) ≡ s
-unfolding rowsShifted rowsUnshifted shiftRows invShiftRows
-unshifted-shifted b zero h = refl
-unshifted-shifted b (suc zero) h = block-is b
-unshifted-shifted b (suc (suc zero)) h = block-is b
-unshifted-shifted b (suc (suc (suc zero))) h = block-is b
-unshifted-shifted b (suc (suc (suc (suc n)))) h = absurd (omega arith)
-
-pub shifted-unshifted : {s : List ℕ} → Block s → (n : ℕ) → n < 4 → rowsShifted n (rowsUnshifted n s) ≡ s
-unfolding rowsShifted rowsUnshifted shiftRows invShiftRows
-shifted-unshifted b zero h = refl
-shifted-unshifted b (suc zero) h = block-is b
-shifted-unshifted b (suc (suc zero)) h = block-is b
-shifted-unshifted b (suc (suc (suc zero))) h = block-is b
-shifted-unshifted b (suc (suc (suc (suc n)))) h = absurd (omega arith)
-
 -- inv_sub_bytes is the exact inverse of sub_bytes, both ways round
 pub invBare-bare : {s : List ℕ} → Block s → invBareSubBytes (bareSubBytes s) ≡ s
 unfolding bareSubBytes invBareSubBytes
-invBare-bare b = ap invSubBytes (add63-twice (sub-block b)) ∙ invSub-sub b
+invBare-bare {s} b = ap invSubBytes (add63-twice (subBytes s)) ∙ invSub-sub b
 
 pub bare-invBare : {s : List ℕ} → Block s → bareSubBytes (invBareSubBytes s) ≡ s
 unfolding bareSubBytes invBareSubBytes
-bare-invBare b = ap add63 (sub-invSub (add63-block b)) ∙ add63-twice b
+bare-invBare {s} b = ap add63 (sub-invSub (add63-block b)) ∙ add63-twice s
 
 -- inv_mix_columns of form i undoes mix_columns of form i, both ways round
 pub invForm-form : {s : List ℕ} → Block s → (i : ℕ) → i < 4 → invMixForm i (mixForm i s) ≡ s

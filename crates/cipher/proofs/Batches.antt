@@ -1,13 +1,13 @@
 -- Batches: each slot by itself, so what holds of blocks holds of batches. One-to-one, onto, undone by decryption; and slots are apart.
 -- Once over the width and the number of rounds, for any words as a schedule. Assumes nothing.
-use mathlib.Core.Path.{_≡_, refl, sym, ap, ap₂, _∙_}
-use mathlib.Core.List.{List, [], _∷_, _++_, map, append-assoc, append-nil}
+use mathlib.Core.Path.{_≡_, sym, ap, ap₂, _∙_}
+use mathlib.Core.List.{List, [], _++_, append-assoc}
 use Prim.Native.Nat.{ℕ, zero, suc, _+_, _-_, _*_, _≤_, _<_}
 use native.Mathlib.Omega.{arith}
 use lib.Dec.{lit<}
 use lib.ListN.{length, take, drop, length-append, length-drop, drop-of-length-le}
-use lib.Seq.{take-at, drop-at, drop-drop, take-all, length-take-le, take-append-le, take-length}
-use Rattle.fips197.specs.Aes.{Fit, Block, range, sixteen, cipher, invCipher}
+use lib.Seq.{take-at, drop-at, drop-drop, length-take-le}
+use Rattle.fips197.specs.Aes.{Block, sixteen, cipher, invCipher}
 use Rattle.fips197.proofs.Blocks.{fit-append, fit-nil, fit-take, fit-drop}
 use Rattle.fips197.proofs.Ciphers.{Blocks, cipher-block, invCipher-block, invCipher-cipher, cipher-invCipher}
 use Rattle.lanes.specs.Layout.{Width, w32, w64, slots, eachSlot, join}

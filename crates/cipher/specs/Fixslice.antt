@@ -1,10 +1,10 @@
 -- The fixsliced rounds on a block, as the code does them: no ShiftRows, round r has MixColumns form r mod 4, the S-box lacks its 63.
 -- k r is round key r as it stands in the schedule. proofs/Argument.antt says what they are in FIPS-197.
 use mathlib.Core.List.{List}
-use Prim.Native.Nat.{ℕ, zero, suc, _-_, _%_}
+use Prim.Native.Nat.{ℕ, zero, suc, _+_, _-_, _%_}
 use Rattle.fips197.specs.Aes.{addRoundKey}
-use Rattle.lanes.specs.Layout.{Width, slot}
-use Rattle.lanes.specs.Schedule.{wordsAt, stored}
+use Rattle.lanes.specs.Layout.{Width}
+use Rattle.lanes.specs.Schedule.{stored}
 use Rattle.lanes.specs.Leaves.{bareSubBytes, invBareSubBytes, rowsShifted, rowsUnshifted, mixForm, invMixForm}
 
 -- one round of form i
@@ -15,6 +15,11 @@ fixRound i k x = addRoundKey (mixForm i (bareSubBytes x)) k
 unfoldable pub roundsTo : (ℕ → List ℕ) → ℕ → List ℕ → List ℕ
 roundsTo k zero x = x
 roundsTo k (suc m) x = fixRound (suc m % 4) (k (suc m)) (roundsTo k m x)
+
+-- n rounds, from number r on
+unfoldable pub roundsFrom : (ℕ → List ℕ) → ℕ → ℕ → List ℕ → List ℕ
+roundsFrom k r zero x = x
+roundsFrom k r (suc n) x = fixRound ((r + n) % 4) (k (r + n)) (roundsFrom k r n x)
 
 -- all n rounds: the row shifts that were left out are made up for before the last S-box
 unfoldable pub fixCipher : (ℕ → List ℕ) → ℕ → List ℕ → List ℕ
@@ -29,18 +34,16 @@ unfoldable pub undoneFrom : (ℕ → List ℕ) → ℕ → List ℕ → List ℕ
 undoneFrom k zero x = x
 undoneFrom k (suc m) x = undoneFrom k m (fixUnround (suc m % 4) (k (suc m)) x)
 
+-- n rounds undone, the highest first, down to number r
+unfoldable pub undoneTo : (ℕ → List ℕ) → ℕ → ℕ → List ℕ → List ℕ
+undoneTo k r zero x = x
+undoneTo k r (suc n) x = undoneTo k r n (fixUnround ((r + n) % 4) (k (r + n)) x)
+
 -- all n rounds undone
 unfoldable pub fixInvCipher : (ℕ → List ℕ) → ℕ → List ℕ → List ℕ
 fixInvCipher k n x = addRoundKey (undoneFrom k (n - 1) (rowsUnshifted (n % 4) (invBareSubBytes (addRoundKey x (k n))))) (k 0)
 
 -- ---- in each slot of a schedule l
--- one round of form i with the words at an offset, and one undone
-abbrev pub roundAt : Width → List ℕ → ℕ → ℕ → ℕ → List ℕ → List ℕ
-roundAt w l off i b x = fixRound i (slot w (wordsAt l off) b) x
-
-abbrev pub unroundAt : Width → List ℕ → ℕ → ℕ → ℕ → List ℕ → List ℕ
-unroundAt w l off i b x = fixUnround i (slot w (wordsAt l off) b) x
-
 -- rounds 1 to m
 abbrev pub roundsIn : Width → List ℕ → ℕ → ℕ → List ℕ → List ℕ
 roundsIn w l m b x = roundsTo (stored w l b) m x
@@ -48,3 +51,10 @@ roundsIn w l m b x = roundsTo (stored w l b) m x
 -- rounds m to 1 undone
 abbrev pub undoneIn : Width → List ℕ → ℕ → ℕ → List ℕ → List ℕ
 undoneIn w l m b x = undoneFrom (stored w l b) m x
+
+-- n rounds from number r on, and n rounds undone down to number r
+abbrev pub moreIn : Width → List ℕ → ℕ → ℕ → ℕ → List ℕ → List ℕ
+moreIn w l r n b x = roundsFrom (stored w l b) r n x
+
+abbrev pub lessIn : Width → List ℕ → ℕ → ℕ → ℕ → List ℕ → List ℕ
+lessIn w l r n b x = undoneTo (stored w l b) r n x

@@ -1,15 +1,13 @@
 -- Laws of single bits: each operation on numbers is one on their bits, and numbers with the same bits are equal. Assumes nothing.
-use mathlib.Core.Path.{_≡_, refl, sym, ap, ap₂, _∙_, subst}
-use mathlib.Core.List.{List, [], _∷_, map}
+use mathlib.Core.Path.{_≡_, refl, sym, ap, ap₂, _∙_}
 use Prim.Native.Nat.{ℕ, zero, suc, _+_, _-_, _*_, _/_, _%_, _^_, _≤_, _<_}
-use native.Mathlib.Nat.{le-refl, le-trans, lt-of-lt-of-le, zero-lt-suc, mod-lt, mod-eq-of-lt, div-eq-of-lt, div-add-mod', mul-one, div-one, add-comm, not-suc-le-zero, le-of-suc-le-suc}
-use native.Mathlib.Numerals.{add-one, one-add}
+use native.Mathlib.Nat.{lt-of-lt-of-le, zero-lt-suc, mod-lt, mod-eq-of-lt, div-eq-of-lt, div-add-mod', div-one, not-suc-le-zero, le-of-suc-le-suc}
+use native.Mathlib.Numerals.{one-add}
 use native.Mathlib.Omega.{arith}
 use lib.Arith.{bin-ind, digits-div, digits-mod}
-use lib.Pow.{pow-pos, pow-mono, shr-shr, field, mod-mod-pow}
-use lib.Bits.{bitXor, bitAnd, bitOr, differ, xor-shr, xor-mod, and-shr, and-mod, or-shr, or-mod, xor-step, xor-add-and, and-mask}
-use lib.ListN.{getD}
-use Rattle.fips197.specs.Aes.{bit, fromBits}
+use lib.Pow.{pow-mono, shr-shr, field, mod-mod-pow}
+use lib.Bits.{bitXor, bitAnd, bitOr, xor-shr, xor-mod, and-shr, and-mod, or-shr, or-mod, xor-add-and, and-mask}
+use Rattle.fips197.specs.Aes.{bit}
 
 pub bit-lt : (k x : ℕ) → bit k x < 2
 bit-lt k x = mod-lt (x / 2 ^ k) (zero-lt-suc 1)

@@ -6,11 +6,10 @@ use Prim.Native.Nat.{ℕ, zero, suc, _+_, _-_, _*_, _/_, _%_, _^_, _≤_, _<_}
 use native.Mathlib.Omega.{arith}
 use native.Mathlib.Nat.{add-zero, zero-add}
 use native.Mathlib.Decide.{decLt}
-use lib.Pow.{pow-pos}
 use lib.Bits.{bitXor, xor-lt}
 use lib.Dec.{eqb, ltb}
 use lib.ListN.{getD, take, drop, length, length-append, length-drop}
-use lib.Seq.{take-append-le, drop-append-le, take-at, drop-at, take-take, drop-drop, take-add, length-take-le, take-all}
+use lib.Seq.{take-append-le, drop-append-le, take-at, drop-at, take-take, take-add, length-take-le, take-all}
 use Rattle.fips197.specs.Aes.{range, Fit, Block, sbox, both, choose, wordOf, sixteen, rotWord, subWord, addWord, roundConstants, rcon, keyTemp, moreWords, roundsFor, keyWords, keyExpansion}
 use Rattle.fips197.proofs.Tables.{sbox-lt}
 use Rattle.fips197.proofs.Blocks.{fit-nil, fit-cons, fit-test, fit-append, fit-drop, fit-take}

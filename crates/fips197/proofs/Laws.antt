@@ -1,13 +1,12 @@
 -- The transformations: what undoes what, what commutes, and what distributes. Each linear law is one computed test. Assumes nothing.
-use mathlib.Core.Path.{_≡_, refl, sym, ap, ap₂, _∙_}
+use mathlib.Core.Path.{_≡_, refl, ap, ap₂, _∙_}
 use mathlib.Core.List.{List, [], _∷_, _++_, map}
-use Prim.Native.Nat.{ℕ, zero, suc, _+_, _-_, _*_, _/_, _%_, _^_, _≤_, _<_, suc-le-suc}
-use lib.Bits.{bitXor}
+use Prim.Native.Nat.{ℕ, _+_, _-_, _*_, _^_, _≤_, _<_}
 use lib.Dec.{T, lit≤}
-use lib.ListN.{getD, length}
+use lib.ListN.{getD}
 use Rattle.fips197.specs.Aes.{Fit, Block, block, xtime, product, sbox, invSbox, subBytes, invSubBytes, shiftRows, invShiftRows, mixColumns, invMixColumns, addRoundKey}
 use Rattle.fips197.proofs.Linear.{Related, numbers, valueOf, inputs, same, agree}
-use Rattle.fips197.proofs.Layers.{Bytes, related8, blockOf, shiftRowsOf, invShiftRowsOf, mixColumnsOf, invMixColumnsOf, addRoundKeyOf}
+use Rattle.fips197.proofs.Layers.{Bytes, related8, blockOf, mixColumnsOf, invMixColumnsOf, addRoundKeyOf}
 use Rattle.fips197.proofs.Tables.{invSbox-sbox, sbox-invSbox}
 use Rattle.fips197.proofs.Blocks.{reads, block-is, fit-tail, fit-append, fit-reads}
 

@@ -1,13 +1,12 @@
 -- The linear transformations written once over any bytes, so that they run on numbers (and are FIPS-197's, by computation) and on
 -- `Related` ones; a law between two of them is then one computed test. Assumes nothing.
-use mathlib.Core.Path.{_≡_, refl, ap, ap₂, _∙_}
-use mathlib.Core.List.{List, [], _∷_, _++_, map}
-use Prim.Native.Nat.{ℕ, zero, suc, _+_, _-_, _*_, _/_, _%_, _^_, _≤_, _<_}
+use mathlib.Core.Path.{_≡_, refl}
+use mathlib.Core.List.{List, map}
+use Prim.Native.Nat.{ℕ, zero, suc, _+_, _-_, _*_, _/_, _%_}
 use lib.Bits.{bitXor}
-use lib.Dec.{T, lit≤}
-use lib.ListN.{getD, set}
-use Rattle.fips197.specs.Aes.{bit, range, xtime, product, shiftRows, invShiftRows, mixColumns, invMixColumns, addRoundKey}
-use Rattle.fips197.proofs.Linear.{Related, numbers, valueOf, xorR, constR, nullR, xtimeR, inputs, same, agree}
+use lib.ListN.{getD}
+use Rattle.fips197.specs.Aes.{range, xtime, product, shiftRows, invShiftRows, mixColumns, invMixColumns, addRoundKey}
+use Rattle.fips197.proofs.Linear.{Related, numbers, valueOf, xorR, constR, nullR, xtimeR}
 
 -- what the layers ask of bytes: {00}, a constant, the sum, and the product with {02}
 pub record Bytes (A : Type 0) : Type 0 where

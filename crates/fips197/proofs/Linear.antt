@@ -1,7 +1,7 @@
 -- The check of everything linear. A number is carried together with its bits as sums of named input bits and the proof that they agree
 -- (`Related`); each operation works on all three. Where two computations end in the same sums, which is a computed test, their numbers are
 -- equal (`agree`). Assumes nothing.
-use mathlib.Core.Path.{_≡_, refl, sym, ap, ap₂, _∙_, subst}
+use mathlib.Core.Path.{_≡_, refl, sym, ap, ap₂, _∙_}
 use mathlib.Core.List.{List, [], _∷_, map}
 use mathlib.Core.Bool.{Bool, true, false}
 use Prim.Native.Nat.{ℕ, zero, suc, _+_, _-_, _*_, _/_, _%_, _^_, _≤_, _<_, zero-le}
@@ -12,10 +12,10 @@ use lib.Dec.{T, eqb, ltb, eqb→eq, ltb→lt}
 use lib.Arith.{lt-one, digits-div, digits-mod}
 use lib.Pow.{pow-pos}
 use lib.Bits.{bitXor, bitAnd, bitOr, xor-comm, xor-self, xor-zero-r, or-zero-r, and-zero-r, xor-lt, shifted-half, shifted-even}
-use lib.ListN.{getD, take, drop, length, length-take, List·getD-eq-default}
+use lib.ListN.{getD, take, drop, length-take, List·getD-eq-default}
 use lib.Seq.{getD-take, getD-drop}
 use Rattle.fips197.specs.Aes.{bit, both, Fit}
-use Rattle.fips197.proofs.Bits.{bit-lt, xor-bit, and-bit, or-bit, bit-shr, bit-suc, bit-zero, bits-ext, bit-low, bit-above, bit-cases, xor-assoc, bit-cons-zero, bit-cons-suc}
+use Rattle.fips197.proofs.Bits.{bit-lt, xor-bit, and-bit, or-bit, bit-shr, bit-suc, bit-zero, bits-ext, bit-low, bit-above, bit-cases, xor-assoc}
 
 pub both-left : (a b : Bool) → T (both a b) → T a
 both-left true b t = tt

@@ -1,7 +1,7 @@
 -- mix_columns and inv_mix_columns by their calls: where the words between are known by equations, as the callees' contracts give them, the
 -- result is the program's. One law for the form and the width. Assumes nothing.
-use mathlib.Core.Path.{_≡_, refl, sym, ap, _∙_, subst}
-use mathlib.Core.List.{List, [], _∷_}
+use mathlib.Core.Path.{_≡_, sym, subst}
+use mathlib.Core.List.{List}
 use Prim.Native.Nat.{ℕ, _<_}
 use lib.ListN.{getD}
 use Rattle.fips197.specs.Aes.{Fit}
@@ -44,3 +44,7 @@ invMix-calls w i h {a} {b} {c} {d} {e} {s} {r} fit p q t u v x =
     calls6 (firstRotates (words w) w i (at a)) (λ b. sums8 (words w) w (at a) (at b)) (λ c. invMixD (words w) w (at a) (at c))
     (λ c d. invMixE (words w) w (at c) (at d)) (λ e. secondRotates (words w) w i (at e)) (λ d e s. sums83 (words w) w (at d) (at e) (at s)) p q t u v x in
     subst (λ (l : List ℕ). Does w (all (invMixForm i)) a l) (sym z) (invMix-law w i h fit)
+
+-- a layer chosen by its number
+pub numbered : (f : ℕ → List ℕ → List ℕ) {w : Width} {n k : ℕ} {s r : List ℕ} → n ≡ k → Does w (all (f k)) s r → Does w (all (f n)) s r
+numbered f {w} {n} {k} {s} {r} e d = subst (λ (i : ℕ). Does w (all (f i)) s r) (sym e) d

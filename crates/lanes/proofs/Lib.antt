@@ -1,6 +1,7 @@
 -- leaves first
 pub mod Check
 pub mod Linear
+pub mod Rows
 pub mod Packing
 pub mod Circuits
 pub mod SubBytes

@@ -1,10 +1,10 @@
 -- The linear leaves: each word program does to every slot what its name says. One law a leaf, over the width and the form; the tests are
 -- computed for each, the argument is `law`. Assumes nothing.
-use mathlib.Core.Path.{_≡_, refl, sym, ap, ap₂, _∙_, subst}
+use mathlib.Core.Path.{_≡_, refl, sym, ap, _∙_, subst}
 use mathlib.Core.List.{List, [], _∷_, _++_, map}
 use Prim.Native.Nat.{ℕ, zero, suc, _+_, _-_, _*_, _/_, _%_, _^_, _≤_, _<_}
 use native.Mathlib.Omega.{arith}
-use lib.Dec.{T, lit≤}
+use lib.Dec.{lit≤}
 use lib.Bits.{bitXor}
 use lib.ListN.{getD, set, replicate}
 use Rattle.fips197.specs.Aes.{Fit, range, product, xtime, shiftRows, invShiftRows, mixColumns, invMixColumns, addRoundKey}
@@ -13,7 +13,7 @@ use Rattle.fips197.proofs.Layers.{Bytes, shiftRowsOf, invShiftRowsOf, mixColumn
 use Rattle.lanes.specs.Layout.{Width, w32, w64, bits, slots, slot, Does, all}
 use Rattle.lanes.specs.Leaves.{add63, rowsShifted, rowsUnshifted, mixForm, invMixForm, addKeyOf, addConstant, keyColumns}
 use Rattle.lanes.specs.Schedule.{nextKeyOf}
-use Rattle.lanes.specs.Programs.{Ops, words, Eight, on8, each8, rotate, shiftWord, columnWord, notsProgram, constantProgram, mixProgram, invMixProgram}
+use Rattle.lanes.specs.Programs.{words, each8, shiftWord, columnWord, notsProgram, constantProgram, mixProgram, invMixProgram}
 use Rattle.lanes.proofs.Check.{law, law-of}
 
 -- ---- what the leaves do to a block, over any bytes

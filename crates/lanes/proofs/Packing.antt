@@ -3,18 +3,18 @@
 use mathlib.Core.Path.{_≡_, refl, sym, ap, ap₂, _∙_}
 use mathlib.Core.List.{List, [], _∷_, _++_, map, append-assoc}
 use Prim.Native.Nat.{ℕ, zero, suc, _+_, _-_, _*_, _/_, _%_, _^_, _≤_, _<_}
-use native.Mathlib.Nat.{add-zero, zero-lt-suc, pow-suc}
+use native.Mathlib.Nat.{zero-lt-suc, pow-suc}
 use native.Mathlib.Omega.{arith}
-use lib.Dec.{T, lit≤, lit<}
+use lib.Dec.{lit≤, lit<}
 use lib.ListN.{getD, take, drop, length, length-drop, length-append, drop-of-length-le}
 use lib.Seq.{getD-drop, take-all, take-at, drop-at}
 use Rattle.fips197.specs.Aes.{Fit, Block, bit, fromBits, range, block, sixteen}
 use Rattle.fips197.proofs.Bits.{bit-lt}
 use Rattle.fips197.proofs.Linear.{Related, numbers, valueOf, input, inputs, same, agree, agreeLists}
-use Rattle.fips197.proofs.Blocks.{reads, reads-part, reads-all, block-is, fit-nil, fit-cons, fit-append, fit-reads, fit-map}
+use Rattle.fips197.proofs.Blocks.{reads, reads-part, reads-all, block-is, fit-append, fit-reads, fit-map}
 use Rattle.lanes.specs.Layout.{Width, w32, w64, bits, slots, Packs, unpacked, rowWidth, quarterRow, place, lane, slot, laneByte, pack, eachSlot, join}
-use Rattle.lanes.specs.Programs.{Ops, words, on8, at, swaps1, swaps2, swaps4, swapsProgram, loadProgram, broadcastProgram, blockBytes, storeProgram}
-use Rattle.lanes.proofs.Check.{narrow, relatedWords, gatherR, slotR, sameBelow, agreeBelow, law-of}
+use Rattle.lanes.specs.Programs.{words, on8, at, swaps1, swaps2, swaps4, swapsProgram, loadProgram, broadcastProgram, storeProgram}
+use Rattle.lanes.proofs.Check.{narrow, relatedWords, gatherR, slotR, law-of}
 
 -- ---- bitslice
 unfoldable pub packWords : Width → List ℕ → List ℕ

@@ -1,11 +1,10 @@
 -- Laws of parts of eight words of a schedule, and of lists by their elements. Assumes nothing.
 use mathlib.Core.Path.{_≡_, refl, sym, _∙_, ap, ap₂, subst, subst₂}
 use mathlib.Core.List.{List, [], _∷_, _++_, append-assoc, append-nil}
-use Prim.Native.Nat.{ℕ, zero, suc, _+_, _-_, _*_, _%_, _<_, _≤_}
+use Prim.Native.Nat.{ℕ, _+_, _-_, _≤_}
 use native.Mathlib.Omega.{arith}
-use native.Mathlib.Decide.{decLe}
-use lib.ListN.{getD, take, drop, length, set, length-append, length-take, length-drop, drop-of-length-le, take-append-drop}
-use lib.Seq.{take-all, drop-cons, drop-drop, take-at, drop-at, take-append-le, drop-append-le, length-take-le, sets, sets-eq}
+use lib.ListN.{take, drop, length, length-append, length-drop, drop-of-length-le, take-append-drop}
+use lib.Seq.{drop-drop, take-at, drop-at, take-append-le, drop-append-le, length-take-le, sets, sets-eq}
 use Rattle.fips197.proofs.Blocks.{reads, reads-all}
 use Rattle.lanes.specs.Layout.{Width, Does}
 use Rattle.lanes.specs.Schedule.{wordsAt, put, Changes, nextKeyOf}

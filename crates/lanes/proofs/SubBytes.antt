@@ -1,9 +1,9 @@
 -- What the S-box circuits compute: bit k of a circuit's words is the circuit on bits k (the same text read at `Lane k`), and a computed test
 -- over 256 bytes says what that is. Assumes nothing.
-use mathlib.Core.Path.{_≡_, refl, sym, ap, ap₂, _∙_, subst, fun-ext}
+use mathlib.Core.Path.{_≡_, refl, sym, ap, ap₂, _∙_, fun-ext}
 use mathlib.Core.List.{List, [], _∷_, map}
-use mathlib.Core.Bool.{Bool, true, false}
-use Prim.Native.Nat.{ℕ, zero, suc, _+_, _*_, _/_, _%_, _^_, _≤_, _<_}
+use mathlib.Core.Bool.{Bool}
+use Prim.Native.Nat.{ℕ, zero, suc, _/_, _%_}
 use lib.Dec.{T, eqb, eqb→eq}
 use lib.Bits.{bitXor, bitAnd}
 use lib.ListN.{getD}

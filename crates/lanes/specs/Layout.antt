@@ -1,7 +1,7 @@
 -- The layout: where the bytes of two or four blocks stand in eight words of 32 or 64 bits (docs/SCOPE.md, "Layout"; word.rs's picture).
 use mathlib.Core.Path.{_≡_}
 use mathlib.Core.List.{List, [], _∷_, _++_, map}
-use Prim.Native.Nat.{ℕ, zero, suc, _+_, _-_, _*_, _/_, _%_, _^_, _<_}
+use Prim.Native.Nat.{ℕ, _+_, _-_, _*_, _/_, _%_, _^_, _<_}
 use lib.ListN.{getD}
 use Rattle.fips197.specs.Aes.{bit, fromBits, range, block, cell, sixteen}
 

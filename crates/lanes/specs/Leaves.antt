@@ -1,6 +1,6 @@
 -- What the leaves do to a block, in the words of FIPS-197. The missing 63 of the S-box circuits is here and in the reading of a schedule only.
-use mathlib.Core.List.{List, [], _∷_, map}
-use Prim.Native.Nat.{ℕ, zero, suc, _+_, _*_, _^_}
+use mathlib.Core.List.{List, map}
+use Prim.Native.Nat.{ℕ, zero, suc, _+_}
 use lib.Bits.{bitXor}
 use lib.ListN.{set, replicate}
 use Rattle.fips197.specs.Aes.{block, cell, subBytes, invSubBytes, shiftRows, invShiftRows, mixColumns, invMixColumns, addRoundKey}

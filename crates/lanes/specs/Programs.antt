@@ -2,7 +2,7 @@
 -- numbers, where they are the code's own result by computation; proofs/ runs them on sums of named bits.
 use mathlib.Core.List.{List, [], _∷_, map}
 use Prim.Native.Nat.{ℕ, zero, suc, _+_, _-_, _*_, _/_, _%_, _^_}
-use lib.ListN.{getD, set}
+use lib.ListN.{getD}
 use lib.Bits.{bitXor, bitAnd, bitOr}
 use Rattle.fips197.specs.Aes.{range}
 use Rattle.lanes.specs.Layout.{Width, w32, w64, bits, slots, rowWidth, quarterRow, packRows, uniformRow, byteRepeat}

@@ -153,7 +153,7 @@ fn inv_mix_outer(d: [u32; 8], e: [u32; 8], s: [u32; 8]) -> [u32; 8]
 }
 
 // MixColumns on a whole state. The forms are the Rust's, after Käsper and Schwabe.
-pub fn mix_columns_0(state: [u32; 8]) -> [u32; 8]
+fn mix_columns_0(state: [u32; 8]) -> [u32; 8]
     ensures { λ r. ⌜ Does w32 (all (mixForm 0)) state r ⌝ }
 {
     let b = first_rotates(state, 0); // rotate_rows_1
@@ -173,7 +173,7 @@ pub fn mix_columns_1(state: [u32; 8]) -> [u32; 8]
 }
 
 // MixColumns on a state that lacks two.
-pub fn mix_columns_2(state: [u32; 8]) -> [u32; 8]
+fn mix_columns_2(state: [u32; 8]) -> [u32; 8]
     ensures { λ r. ⌜ Does w32 (all (mixForm 2)) state r ⌝ }
 {
     let b = first_rotates(state, 2); // rotate_rows_and_columns_1_2
@@ -183,7 +183,7 @@ pub fn mix_columns_2(state: [u32; 8]) -> [u32; 8]
 }
 
 // MixColumns on a state that lacks three.
-pub fn mix_columns_3(state: [u32; 8]) -> [u32; 8]
+fn mix_columns_3(state: [u32; 8]) -> [u32; 8]
     ensures { λ r. ⌜ Does w32 (all (mixForm 3)) state r ⌝ }
 {
     let b = first_rotates(state, 3); // rotate_rows_and_columns_1_3
@@ -192,8 +192,21 @@ pub fn mix_columns_3(state: [u32; 8]) -> [u32; 8]
     mix_outer(b, c, s)
 }
 
+// The form chosen by its number.
+pub fn mix_columns(state: [u32; 8], form: usize) -> [u32; 8]
+    requires { ⌜ form < 4 ⌝ }
+    ensures { λ r. ⌜ Does w32 (all (mixForm form)) state r ⌝ }
+{
+    match form {
+        1 => mix_columns_1(state),
+        2 => mix_columns_2(state),
+        3 => mix_columns_3(state),
+        _ => mix_columns_0(state),
+    }
+}
+
 // InvMixColumns on a whole state.
-pub fn inv_mix_columns_0(state: [u32; 8]) -> [u32; 8]
+fn inv_mix_columns_0(state: [u32; 8]) -> [u32; 8]
     ensures { λ r. ⌜ Does w32 (all (invMixForm 0)) state r ⌝ }
 {
     let b = first_rotates(state, 0); // as in mix_columns_0
@@ -217,7 +230,7 @@ pub fn inv_mix_columns_1(state: [u32; 8]) -> [u32; 8]
 }
 
 // InvMixColumns on a state that lacks two.
-pub fn inv_mix_columns_2(state: [u32; 8]) -> [u32; 8]
+fn inv_mix_columns_2(state: [u32; 8]) -> [u32; 8]
     ensures { λ r. ⌜ Does w32 (all (invMixForm 2)) state r ⌝ }
 {
     let b = first_rotates(state, 2); // as in mix_columns_2
@@ -229,7 +242,7 @@ pub fn inv_mix_columns_2(state: [u32; 8]) -> [u32; 8]
 }
 
 // InvMixColumns on a state that lacks three.
-pub fn inv_mix_columns_3(state: [u32; 8]) -> [u32; 8]
+fn inv_mix_columns_3(state: [u32; 8]) -> [u32; 8]
     ensures { λ r. ⌜ Does w32 (all (invMixForm 3)) state r ⌝ }
 {
     let b = first_rotates(state, 3); // as in mix_columns_3
@@ -238,4 +251,17 @@ pub fn inv_mix_columns_3(state: [u32; 8]) -> [u32; 8]
     let e = inv_mix_e(c, d);
     let s = second_rotates(e, 3);
     inv_mix_outer(d, e, s)
+}
+
+// The form chosen by its number.
+pub fn inv_mix_columns(state: [u32; 8], form: usize) -> [u32; 8]
+    requires { ⌜ form < 4 ⌝ }
+    ensures { λ r. ⌜ Does w32 (all (invMixForm form)) state r ⌝ }
+{
+    match form {
+        1 => inv_mix_columns_1(state),
+        2 => inv_mix_columns_2(state),
+        3 => inv_mix_columns_3(state),
+        _ => inv_mix_columns_0(state),
+    }
 }

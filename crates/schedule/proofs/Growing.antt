@@ -7,7 +7,7 @@ use native.Mathlib.Decide.{decLt}
 use native.Mathlib.Omega.{arith}
 use lib.ListN.{getD, take, drop, length, length-append}
 use lib.Seq.{take-all, take-at, drop-at, take-add, take-take, length-take-le}
-use Rattle.fips197.specs.Aes.{sixteen, subBytes, roundConstants, roundsFor, keyWords}
+use Rattle.fips197.specs.Aes.{sixteen, roundConstants, roundsFor, keyWords}
 use Rattle.fips197.proofs.Keys.{key-first}
 use Rattle.lanes.specs.Layout.{Width, slots, slot}
 use Rattle.lanes.specs.Leaves.{keyColumns}
@@ -86,11 +86,11 @@ pub keys-256 : (w : Width) (j : ℕ) {c : ℕ} {l₀ l l′ : List ℕ} → j < 
 keys-256 w j h e long ec =
     keys-constant w 8 (omega arith) (omega arith) 2 (2 * j + 1) j 16 (16 * j + 8) (2 * j + 2) (2 * (j + 1) + 1) refl (omega arith) (omega arith) (omega arith) (omega arith) refl (omega arith) (omega arith) (omega arith) long ec
 
--- and the ones between
+-- and the ones between, with no constant
 pub keys-256-plain : (w : Width) (j : ℕ) {l₀ l l′ : List ℕ} → 1 ≤ j → j < 7 → length l ≡ 120 → length l′ ≡ length l
-    → Keys w 8 (2 * j + 1) l₀ l → Changes w (nextOf w 0 subBytes l (16 * j + 8) 16) (16 * j + 8) l l′ → Keys w 8 (2 * j + 2) l₀ l′
+    → Keys w 8 (2 * j + 1) l₀ l → Changes w (nextOf w 0 (keyPass 0) l (16 * j + 8) 16) (16 * j + 8) l l′ → Keys w 8 (2 * j + 2) l₀ l′
 keys-256-plain w j some h e long =
-    keys-more w 8 (omega arith) (omega arith) 0 2 (2 * j) 16 (16 * j) (2 * j + 1) (2 * j + 2) subBytes (omega arith) refl refl refl (omega arith) (omega arith) (omega arith) long
+    keys-more w 8 (omega arith) (omega arith) 0 2 (2 * j) 16 (16 * j) (2 * j + 1) (2 * j + 2) (keyPass 0) (omega arith) refl refl refl (omega arith) (omega arith) (omega arith) long
     (λ key f. next-plain 8 key (omega arith) f 2 refl (2 * j) (omega arith) (omega arith) refl j (omega arith))
 
 -- ---- the key in every slot

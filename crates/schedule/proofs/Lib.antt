@@ -1,6 +1,5 @@
 -- leaves first
 mod RoundKeys
-pub mod Rows
 mod Eights
 pub mod Reading
 pub mod Cases

@@ -2,7 +2,7 @@
 -- next round key. Assumes nothing.
 use mathlib.Core.Path.{_≡_, refl, sym, ap, ap₂, _∙_, subst₂}
 use mathlib.Core.List.{List, _++_}
-use Prim.Native.Nat.{ℕ, zero, suc, _+_, _-_, _*_, _≤_, _<_}
+use Prim.Native.Nat.{ℕ, _+_, _-_, _*_, _≤_, _<_}
 use native.Mathlib.Omega.{arith}
 use lib.ListN.{take, drop, length}
 use Rattle.fips197.specs.Aes.{subBytes}
@@ -11,7 +11,7 @@ use Rattle.lanes.specs.Leaves.{add63, bareSubBytes, rowsUnshifted, keyColumns}
 use Rattle.lanes.specs.Schedule.{wordsAt, put, Changes, nextKeyOf, stored}
 use Rattle.lanes.proofs.Parts.{words-length, put-is, put-length, at-put, before-put, after-put, put-put, given-back}
 use Rattle.schedule.specs.Steps.{nextOf}
-use Rattle.schedule.proofs.Rows.{add63-twice}
+use Rattle.lanes.proofs.Rows.{add63-twice}
 
 -- ---- one pass after the other
 pub then : {w : Width} {f g : List ℕ → List ℕ} {s t r : List ℕ} → Does w (all f) s t → Does w (all g) t r → Does w (all (λ x. g (f x))) s r
@@ -26,17 +26,10 @@ sub-then-nots {w} {s} p q = record { each = λ b h. q .each b h ∙ ap add63 (p 
 pub loaded : {w : Width} {f : ℕ → List ℕ → List ℕ} {l s t r : List ℕ} → s ≡ l → r ≡ t → Does w f s t → Does w f l r
 loaded {w} {f} p q d = subst₂ (Does w f) p (sym q) d
 
--- inverse row shifts, by their number
-pub times-is : {w : Width} {n k : ℕ} {s r : List ℕ} → n ≡ k → Does w (all (rowsUnshifted k)) s r → Does w (all (rowsUnshifted n)) s r
-times-is {w} {n} {k} {s} {r} e d = rw e d
-
-pub times-rest : {w : Width} {s : List ℕ} (n : ℕ) → n < 4 → (n ≡ 1 → ⊥) → (n ≡ 2 → ⊥) → (n ≡ 3 → ⊥) → Does w (all (rowsUnshifted n)) s s
+-- no inverse row shift changes nothing
+pub times-none : {w : Width} {s : List ℕ} → Does w (all (rowsUnshifted 0)) s s
 unfolding rowsUnshifted
-times-rest zero h p q r = record { each = λ b h. refl }
-times-rest (suc zero) h p q r = absurd (p refl)
-times-rest (suc (suc zero)) h p q r = absurd (q refl)
-times-rest (suc (suc (suc zero))) h p q r = absurd (r refl)
-times-rest (suc (suc (suc (suc n)))) h p q r = absurd (omega arith)
+times-none = record { each = λ b h. refl }
 
 -- ---- a change at an offset, by round keys
 module _ {w : Width} {f : ℕ → List ℕ → List ℕ} (at : ℕ) {l m : List ℕ} (fits : at + 8 ≤ length l) (long : length m ≡ length l) (change : Changes w f at l m) where

@@ -17,7 +17,7 @@ use Rattle.lanes.specs.Leaves.{add63, rowsShifted, rowsUnshifted}
 use Rattle.lanes.specs.Schedule.{wordsAt, stored, readKey, reading, writeKey, scheduleOf}
 use Rattle.lanes.proofs.Packing.{slot-pack, slots-one, pack-length, pack-fits, slot-block}
 use Rattle.lanes.proofs.Parts.{words-length}
-use Rattle.schedule.proofs.Rows.{add63-block, shifted-block, unshifted-block, add63-twice, shifted-unshifted, unshifted-shifted}
+use Rattle.lanes.proofs.Rows.{add63-block, shifted-block, unshifted-block, add63-twice, shifted-unshifted, unshifted-shifted}
 use Rattle.schedule.proofs.Eights.{parts-length, parts-fit, parts-at, eights-one}
 
 -- ---- one round key

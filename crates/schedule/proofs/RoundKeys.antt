@@ -6,6 +6,7 @@ use Prim.Native.Nat.{ℕ, zero, suc, _+_, _-_, _*_, _/_, _%_, _≤_, _<_}
 use native.Mathlib.Omega.{arith}
 use borrow.Author.Tests.{ne-eqb}
 use mathlib.Core.Bool.{Bool, true, false}
+use lib.Bits.{bitXor, xor-zero-r}
 use lib.Dec.{ltb}
 use lib.Arith.{digits-div, digits-mod}
 use lib.ListN.{getD, take, drop, length, length-drop}
@@ -128,6 +129,15 @@ sub-length : (s : List ℕ) → length s ≡ 16 → length (subBytes s) ≡ 16
 unfolding subBytes
 sub-length s e = lib.ListN.length-map s sbox ∙ e
 
+-- the constant 0 adds nothing
+constant-none : (s : List ℕ) → length s ≡ 16 → addConstant 0 s ≡ s
+unfolding addConstant addRoundKey
+constant-none s e = each (reads 0 16 s) ∙ reads-all s 16 e
+  where
+    each : (l : List ℕ) → map (λ (x : ℕ). bitXor x 0) l ≡ l
+    each [] = refl
+    each (x ∷ l) = ap₂ _∷_ (xor-zero-r x) (each l)
+
 -- SubWord of the last word
 sub-last : (s : List ℕ) → length s ≡ 16 → turned 0 (wordOf (subBytes s) 3) ≡ subWord (wordOf s 3)
 unfolding subBytes subWord
@@ -179,7 +189,7 @@ module _ (nk : ℕ) (key : List ℕ) (pos : 1 ≤ nk) (long : length key ≡ 4 *
 
   -- at Nk = 8, half way between two such: no constant, and the last column as it is
   pub next-plain : nk ≡ 8 → (j : ℕ) → 4 * (i + 1) ≡ j * 8 + 4
-      → sixteen (keyWords nk key) (i + 1) ≡ keyColumns 0 (sixteen (keyWords nk key) (i + 1 - m)) (subBytes (sixteen (keyWords nk key) i))
+      → sixteen (keyWords nk key) (i + 1) ≡ keyColumns 0 (sixteen (keyWords nk key) (i + 1 - m)) (addConstant 0 (subBytes (sixteen (keyWords nk key) i)))
   next-plain g j e =
       let k : List ℕ = roundKey nk key pos long i in
       let l : length k ≡ 16 = key-length nk key pos long i (omega arith) in
@@ -188,3 +198,4 @@ module _ (nk : ℕ) (key : List ℕ) (pos : 1 ≤ nk) (long : length key ≡ 4 *
       next-key nk key pos long m four i old more 0 (omega arith) (subBytes k) (sub-length k l)
       (sub-last k l ∙ sym (ap (λ (n : ℕ). keyTemp n (4 * (i + 1)) (wordOf k 3)) g ∙ temp-sub (4 * (i + 1)) (wordOf k 3) (rw z at (digit 0 (omega arith)))))
       (λ p h l w. ap (λ (n : ℕ). keyTemp n (4 * (i + 1) + p) w) g ∙ temp-plain 8 (4 * (i + 1) + p) w (λ f. omega (arith, digit p l)) (λ f. omega (arith, digit p l)))
+      ∙ ap (keyColumns 0 (roundKey nk key pos long (i + 1 - m))) (sym (constant-none (subBytes k) (sub-length k l)))

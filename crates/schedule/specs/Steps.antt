@@ -8,7 +8,7 @@ use Rattle.lanes.specs.Layout.{Width, slots, slot}
 use Rattle.lanes.specs.Leaves.{addConstant, keyColumns}
 use Rattle.lanes.specs.Schedule.{wordsAt, stored}
 
--- the pass over a round key that makes the next: SubBytes, and the round constant at row 1, column 3
+-- the pass over a round key that makes the next: SubBytes, and the round constant, or 0, at row 1, column 3
 abbrev pub keyPass : ℕ → List ℕ → List ℕ
 keyPass c k = addConstant c (subBytes k)
 

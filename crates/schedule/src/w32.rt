@@ -46,24 +46,15 @@ fn key_pass(part: &mut [u32], constant: u8)
     store(part, add_round_constant(s, constant));
 }
 
-// The round key after the one at an offset, from that one and from the one `idx_xor` words before the new.
-fn next_key(rkeys: &mut [u32], off: usize, idx_xor: usize, constant: u8)
-    requires { ⌜ (8 ≤ «idx_xor») × («idx_xor» ≤ off + 8) × (off + 16 ≤ length (now rkeys)) ⌝ }
-    ensures { λ r. ⌜ Changes w32 (nextOf w32 1 (keyPass constant) (now (rkeys .entry)) (off + 8) «idx_xor») (off + 8) (now (rkeys .entry)) (now (rkeys .exit)) ⌝ }
+// The round key after the one at an offset, from that one and from the one `idx_xor` words before the new. The last column is turned by `rows`.
+// All steps go through this one function, so that the compiler joins its passes; a step with no constant adds 0.
+fn next_key(rkeys: &mut [u32], off: usize, idx_xor: usize, constant: u8, rows: u32)
+    requires { ⌜ (8 ≤ «idx_xor») × («idx_xor» ≤ off + 8) × (off + 16 ≤ length (now rkeys)) × (rows < 2) ⌝ }
+    ensures { λ r. ⌜ Changes w32 (nextOf w32 rows (keyPass constant) (now (rkeys .entry)) (off + 8) «idx_xor») (off + 8) (now (rkeys .entry)) (now (rkeys .exit)) ⌝ }
 {
     memshift32(rkeys, off);
     key_pass(&mut rkeys[off + 8..off + 16], constant);
-    xor_columns(rkeys, off + 8, idx_xor, 1);
-}
-
-// Every second step of AES-256: no constant, and only columns are rotated.
-fn next_key_plain(rkeys: &mut [u32], off: usize, idx_xor: usize)
-    requires { ⌜ (8 ≤ «idx_xor») × («idx_xor» ≤ off + 8) × (off + 16 ≤ length (now rkeys)) ⌝ }
-    ensures { λ r. ⌜ Changes w32 (nextOf w32 0 subBytes (now (rkeys .entry)) (off + 8) «idx_xor») (off + 8) (now (rkeys .entry)) (now (rkeys .exit)) ⌝ }
-{
-    memshift32(rkeys, off);
-    sub_key(&mut rkeys[off + 8..off + 16]);
-    xor_columns(rkeys, off + 8, idx_xor, 0);
+    xor_columns(rkeys, off + 8, idx_xor, rows);
 }
 
 // Round keys 1 to 10 from round key 0.
@@ -72,23 +63,23 @@ fn expand_128(rkeys: &mut [u32])
     ensures { λ r. ⌜ Keys w32 4 11 (now (rkeys .entry)) (now (rkeys .exit)) ⌝ }
 {
     for rcon in 0..10 {
-        next_key(rkeys, 8 * rcon, 8, super::round_constant(rcon));
+        next_key(rkeys, 8 * rcon, 8, super::round_constant(rcon), 1);
     }
 }
 
-// Round keys 2 to 14 from round keys 0 and 1. The loop is left from its middle.
+// Round keys 2 to 14 from round keys 0 and 1: every second step has no constant and turns columns only. The loop is left from its middle.
 fn expand_256(rkeys: &mut [u32])
     requires { ⌜ length (now rkeys) ≡ 120 ⌝ }
     ensures { λ r. ⌜ Keys w32 8 15 (now (rkeys .entry)) (now (rkeys .exit)) ⌝ }
 {
     let mut rcon: usize = 0;
     loop {
-        next_key(rkeys, 16 * rcon + 8, 16, super::round_constant(rcon));
+        next_key(rkeys, 16 * rcon + 8, 16, super::round_constant(rcon), 1);
         rcon += 1;
         if rcon == 7 {
             break;
         }
-        next_key_plain(rkeys, 16 * rcon, 16);
+        next_key(rkeys, 16 * rcon, 16, 0, 0);
     }
 }
 

@@ -3,9 +3,8 @@
 -- (crates/aes/specs/Outcome.antt), which the code of crates/aes and crates/host is proved to meet. Assumes nothing.
 use mathlib.Core.Path.{_≡_, refl, sym, _∙_, ap, ap₂}
 use mathlib.Core.Bool.{Bool, true, false, not}
-use mathlib.Core.List.{List, []}
-use Prim.Native.Nat.{ℕ, _+_, _*_, _<_, _≤_}
-use native.Mathlib.Omega.{arith}
+use mathlib.Core.List.{List}
+use Prim.Native.Nat.{ℕ, _+_, _*_, _<_}
 use lib.Dec.{eqb}
 use lib.ListN.{length}
 use Rattle.fips197.specs.Aes.{Fit, sixteen, cipher, invCipher, keyExpansion, roundsFor}

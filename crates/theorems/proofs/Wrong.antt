@@ -2,12 +2,12 @@
 -- time, one that writes nothing and answers 0, one that copies its input, one that does the first round and skips the rest, one that fills
 -- every slot from slot 0. Each takes the wrong program's answer for every input and derives a contradiction. Assumes nothing.
 use mathlib.Core.Path.{_≡_, refl, sym, _∙_, ap, ap₂}
-use mathlib.Core.List.{List, [], _∷_, _++_, map}
-use Prim.Native.Nat.{ℕ, zero, suc, _+_, _-_, _*_, _<_, _≤_}
+use mathlib.Core.List.{List, [], _∷_}
+use Prim.Native.Nat.{ℕ, zero, suc, _-_, _*_, _<_}
 use native.Mathlib.Omega.{arith}
-use lib.Dec.{lit<, lit≤}
-use lib.ListN.{length, getD, take, drop, replicate}
-use Rattle.fips197.specs.Aes.{Block, Fit, range, sixteen, choose, xtime, product, inverse, affine, invAffine, sbox, invSbox, subBytes, invSubBytes, shiftRows, invShiftRows, mixColumns, invMixColumns, addRoundKey, rounds, cipher, invRounds, invCipher}
+use lib.Dec.{lit<}
+use lib.ListN.{length, getD, replicate}
+use Rattle.fips197.specs.Aes.{Block, sixteen, xtime, product, inverse, affine, invAffine, sbox, invSbox, subBytes, invSubBytes, shiftRows, invShiftRows, mixColumns, invMixColumns, addRoundKey, rounds, cipher, invRounds, invCipher}
 use Rattle.fips197.proofs.Blocks.{fit-test, fit-cons}
 use Rattle.fips197.proofs.Ciphers.{Blocks, none, more, cipher-block, invCipher-block, cipher-one, cipher-invCipher}
 use Rattle.lanes.specs.Layout.{Width, w32, w64, slots, slot, eachSlot, join}

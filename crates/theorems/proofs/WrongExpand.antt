@@ -6,7 +6,7 @@ use mathlib.Core.List.{List, [], _∷_, _++_}
 use Prim.Native.Nat.{ℕ, _+_, _-_, _*_, _<_, _≤_}
 use native.Mathlib.Omega.{arith}
 use lib.Dec.{lit<, lit≤}
-use lib.ListN.{length, getD, drop, replicate, getD-replicate, length-replicate}
+use lib.ListN.{length, getD, drop, replicate, getD-replicate}
 use lib.Seq.{getD-drop, getD-append-add}
 use Rattle.fips197.specs.Aes.{Fit, roundsFor}
 use Rattle.fips197.proofs.Blocks.{fit-cons, fit-test}

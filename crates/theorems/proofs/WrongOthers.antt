@@ -1,14 +1,13 @@
 -- Wrong programs for the key check value and for the door: one that refuses everything, one that writes nothing and answers 0, and a door that
 -- takes direction 2 or lets a wrong key length pass behind another refusal. Assumes nothing.
 use mathlib.Core.Path.{_≡_, refl, sym, _∙_, ap}
-use mathlib.Core.List.{List, [], _∷_}
+use mathlib.Core.List.{List}
 use Prim.Native.Nat.{ℕ}
 use native.Mathlib.Omega.{arith}
 use lib.ListN.{getD, replicate}
-use Rattle.fips197.specs.Aes.{roundsFor}
 use Rattle.lanes.specs.Layout.{Width, w64}
 use Rattle.lanes.specs.Schedule.{scheduleOf, encryptedBatch}
-use Rattle.aes.specs.Outcome.{Outcome, answers, keyWordsOf, roundsOf, checkValue, checkOutcome, doorOutcome}
+use Rattle.aes.specs.Outcome.{answers, keyWordsOf, roundsOf, checkValue, checkOutcome, doorOutcome}
 
 same-number : {r r′ : ℕ} {x x′ : List ℕ} → answers r x ≡ answers r′ x′ → r ≡ r′
 same-number e = cc

@@ -1,7 +1,7 @@
 // The width of 32 bits: two blocks in eight words. A row has 8 bits, a column of it 2.
 ghost use mathlib.Core.Path.{_≡_};
-ghost use Prim.Native.Nat.{ℕ, _+_, _-_, _*_, _<_, _≤_};
-ghost use lib.ListN.{length, getD};
+ghost use Prim.Native.Nat.{_+_, _-_, _*_, _<_, _≤_};
+ghost use lib.ListN.{length};
 ghost use Rattle.lanes.specs.Layout.{w32, Does, all, packRows};
 ghost use Rattle.lanes.specs.Leaves.{rowsShifted, rowsUnshifted, addKeyOf, addConstant};
 ghost use Rattle.lanes.specs.Programs.{words, ror as rorWord, deltaSwap1, upper, lower, shiftWord, columnWord};

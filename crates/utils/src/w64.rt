@@ -1,7 +1,7 @@
 // The width of 64 bits: four blocks in eight words. A row has 16 bits, a column of it 4.
 ghost use mathlib.Core.Path.{_≡_};
-ghost use Prim.Native.Nat.{ℕ, _+_, _-_, _*_, _<_, _≤_};
-ghost use lib.ListN.{length, getD};
+ghost use Prim.Native.Nat.{_+_, _-_, _*_, _<_, _≤_};
+ghost use lib.ListN.{length};
 ghost use Rattle.lanes.specs.Layout.{w64, Does, all, packRows};
 ghost use Rattle.lanes.specs.Leaves.{rowsShifted, rowsUnshifted, addKeyOf, addConstant};
 ghost use Rattle.lanes.specs.Programs.{words, ror as rorWord, deltaSwap1, upper, lower, shiftWord, columnWord};

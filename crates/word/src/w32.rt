@@ -5,7 +5,7 @@ ghost use mathlib.Core.List.{[], _∷_};
 ghost use Prim.Native.Nat.{ℕ, _+_, _<_, _≤_};
 ghost use lib.ListN.{length, getD};
 ghost use Rattle.lanes.specs.Layout.{w32, slot, Packs, unpacked};
-ghost use Rattle.lanes.specs.Programs.{words, on8, swaps1, swaps2, swaps4, swapsProgram, loadWord, loadProgram, broadcastProgram, blockBytes};
+ghost use Rattle.lanes.specs.Programs.{words, on8, swaps1, swaps2, swaps4, swapsProgram, loadWord, loadProgram, blockBytes};
 use utils::w32::delta_swap_2;
 
 // Bit index swap 5 <-> 0:  __ __ b0 __ __ __ __ p0 => __ __ p0 __ __ __ __ b0

@@ -1,6 +1,5 @@
 -- Each answer by its law. Assumes nothing.
 use borrow.Author.Needs.{needs}
-use lib.ListN.{length}
 use Rattle.aes.proofs.Answers.{crypt-2, crypt-3, crypt-4, crypt-0, schedule-fits}
 use Rattle.lanes.specs.Layout.{w32}
 use Rattle.lanes.specs.Schedule.{encryptedBatch}

@@ -2,7 +2,6 @@
 use borrow.Author.Needs.{needs}
 use Prim.Native.Nat.{_≤_}
 use lib.ListN.{length, length-set}
-use mathlib.Core.Path.{_≡_}
 use native.Mathlib.Omega.{arith}
 use Rattle.aes.proofs.Answers.{check-2, check-4, check-0, check-stored, schedule-fits}
 use Rattle.lanes.specs.Layout.{w64}

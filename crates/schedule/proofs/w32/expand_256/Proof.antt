@@ -25,7 +25,7 @@ loop-again c =
     let next = plain .before .before .before .before .before in
     let q = next .before .before .before .loop in
     let k = keys-256 w32 (q .rcon) (q .inv .0) (q .inv .1) (next .next-key .kept .0) (next .before .round-constant .ensures) (q .inv .2) (next .next-key .ensures) in
-    (search needs, search needs, keys-256-plain w32 (q .rcon + 1) (search needs) (search needs) (next .next-key .kept .0 ∙ q .inv .1) (plain .next-key-plain .kept .0) k (plain .next-key-plain .ensures))
+    (search needs, search needs, keys-256-plain w32 (q .rcon + 1) (search needs) (search needs) (next .next-key .kept .0 ∙ q .inv .1) (plain .next-key2 .kept .0) k (plain .next-key2 .ensures))
 
 returns : tie.Need-returns Inv-loop μ-loop
 returns c =

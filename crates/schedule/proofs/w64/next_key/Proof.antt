@@ -16,7 +16,7 @@ returns c =
     let start = copy .before .before .before in
     let a = start .args in
     let k : a .off + 16 - (a .off + 8) ≡ 8 = omega arith in
-    next-lent w64 1 (a .idx-xor) (a .off) _ k (start .pre .2) (start .pre .0) (start .pre .1) (copy .memshift32 .kept .0) (pass .key-pass .kept .0 ∙ search needs) (columns .xor-columns .kept .0)
+    next-lent w64 (a .rows) (a .idx-xor) (a .off) _ k (start .pre .2) (start .pre .0) (start .pre .1) (copy .memshift32 .kept .0) (pass .key-pass .kept .0 ∙ search needs) (columns .xor-columns .kept .0)
     (copy .memshift32 .ensures) (pass .key-pass .ensures) (columns .xor-columns .ensures)
 
 pub next-key-spec : {M : Type 1} → statement M

@@ -1,6 +1,5 @@
 -- It is the sum with the words of the constant. Assumes nothing.
 use borrow.Author.Needs.{needs}
-use lib.Dec.{lit<}
 use Rattle.lanes.proofs.Linear.{addWords, constantWords, constant-law, does-is}
 use Rattle.lanes.proofs.Machine.{array-fit}
 use Rattle.lanes.proofs.Parts.{_∷≡_}

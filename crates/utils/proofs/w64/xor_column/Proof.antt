@@ -1,7 +1,5 @@
 -- The rotation is the program's. Assumes nothing.
 use borrow.Author.Needs.{needs}
-use Prim.Native.Nat.{ℕ}
-use lib.Bits.{bitXor, bitAnd}
 use mathlib.Core.Path.{ap}
 use Rattle.lanes.specs.Layout.{w64}
 use Rattle.lanes.specs.Programs.{words, columnOf}
