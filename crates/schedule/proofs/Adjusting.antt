@@ -54,7 +54,7 @@ whole w nk n key l₀ l₁ l₂ l₃ en pos long fits e₁ e₃ fit₃ start ks 
     schedule-is w nk key pos long fits l₃ (rw en at e₃) fit₃ (λ b h r k. rw (← en) (each b h r (rw (← en) at k)))
   where
     key-there : (b : ℕ) → b < slots w → (r : ℕ) → r < n + 1 → stored w l₁ b r ≡ sixteen (keyWords nk key) r
-    key-there b h r k = ks .at b h r k ∙ ap (λ (x : List ℕ). sixteen (keyWords nk x) r) (start b h)
+    key-there b h r k = ks .at b h r k (omega arith) ∙ ap (λ (x : List ℕ). sixteen (keyWords nk x) r) (start b h)
 
     last : (b : ℕ) → b < slots w → (r : ℕ) → suc r < n + 1 → Dec (suc r < n) → stored w l₃ b (suc r) ≡ writeKey n (suc r) (sixteen (keyWords nk key) (suc r))
     last b h r k (yes q) =

@@ -12,7 +12,7 @@ use Rattle.fips197.proofs.Keys.{key-first}
 use Rattle.lanes.specs.Layout.{Width, slots, slot}
 use Rattle.lanes.specs.Leaves.{keyColumns}
 use Rattle.lanes.specs.Schedule.{wordsAt, Changes, stored}
-use Rattle.schedule.specs.Steps.{keyPass, nextOf, startKey, Keys}
+use Rattle.schedule.specs.Steps.{keyPass, nextOf, startKey, InTurn, stepConstant, stepRows, Keys, Grows}
 use Rattle.schedule.proofs.RoundKeys.{sixteen-take, next-constant, next-plain}
 use Rattle.schedule.proofs.Reading.{stored-block}
 use Rattle.schedule.proofs.Passes.{stored-before, stored-here}
@@ -43,7 +43,7 @@ start-sixteen w nk p h l b r k =
 module _ (w : Width) (nk : ℕ) (pos : 1 ≤ nk) (few : nk ≤ 8) where
   -- n round keys are there as soon as the key is
   pub keys-first : (n : ℕ) (l : List ℕ) → 16 * n ≤ 4 * nk → Keys w nk n l l
-  keys-first n l h = record { at = λ b c r k. start-sixteen w nk pos few l b r (omega arith) }
+  keys-first n l h = record { at = λ b c r k g. start-sixteen w nk pos few l b r (omega arith) }
 
   -- round key i + 1 is there, after a step from round key i
   keys-more : (n m i back off p q : ℕ) (f : List ℕ → List ℕ) {l₀ l l′ : List ℕ} → off ≡ 8 * i → back ≡ 8 * m → p ≡ i + 1 → q ≡ i + 2 → 1 ≤ m → m ≤ i + 1
@@ -51,18 +51,18 @@ module _ (w : Width) (nk : ℕ) (pos : 1 ≤ nk) (few : nk ≤ 8) where
       → ((key : List ℕ) → length key ≡ 4 * nk → sixteen (keyWords nk key) (i + 1) ≡ keyColumns n (sixteen (keyWords nk key) (i + 1 - m)) (f (sixteen (keyWords nk key) i)))
       → Keys w nk p l₀ l → Changes w (nextOf w n f l (off + 8) back) (off + 8) l l′ → Keys w nk q l₀ l′
   unfolding stored
-  keys-more n m i back off p q f {l₀} {l} {l′} eo em ep eq some old fits long next ks d = record { at = λ b h r k. more b h r k (decLt r p) }
+  keys-more n m i back off p q f {l₀} {l} {l′} eo em ep eq some old fits long next ks d = record { at = λ b h r k g. more b h r k g (decLt r p) }
     where
-      more : (b : ℕ) → b < slots w → (r : ℕ) → r < q → Dec (r < p) → stored w l′ b r ≡ sixteen (keyWords nk (startKey w nk l₀ b)) r
-      more b h r k (yes y) = stored-before (off + 8) (omega arith) long d b r (omega arith) ∙ ks .at b h r y
-      more b h r k (no y) =
+      more : (b : ℕ) → b < slots w → (r : ℕ) → r < q → 8 * r + 8 ≤ length l′ → Dec (r < p) → stored w l′ b r ≡ sixteen (keyWords nk (startKey w nk l₀ b)) r
+      more b h r k g (yes y) = stored-before (off + 8) (omega arith) long d b r (omega arith) ∙ ks .at b h r y (omega arith)
+      more b h r k g (no y) =
           let e : i + 1 ≡ r = omega arith in
           let e₁ : 8 * r ≡ off + 8 = omega arith in
           let e₂ : off + 8 - back ≡ 8 * (i + 1 - m) = omega arith in
           let e₃ : off + 8 - 8 ≡ 8 * i = omega arith in
           stored-here (off + 8) (omega arith) long d b h r e₁
           ∙ ap₂ (λ (p t : ℕ). keyColumns n (slot w (wordsAt l p) b) (f (slot w (wordsAt l t) b))) e₂ e₃
-          ∙ ap₂ (λ (p t : List ℕ). keyColumns n p (f t)) (ks .at b h (i + 1 - m) (omega arith)) (ks .at b h i (omega arith))
+          ∙ ap₂ (λ (p t : List ℕ). keyColumns n p (f t)) (ks .at b h (i + 1 - m) (omega arith) (omega arith)) (ks .at b h i (omega arith) (omega arith))
           ∙ sym (next (startKey w nk l₀ b) (start-length w nk few l₀ b))
           ∙ ap (sixteen (keyWords nk (startKey w nk l₀ b))) e
 
@@ -74,24 +74,85 @@ module _ (w : Width) (nk : ℕ) (pos : 1 ≤ nk) (few : nk ≤ 8) where
       keys-more 1 m i back off p q (keyPass c) eo em ep eq (omega arith) old fits long
       (λ key e. rw ec (next-constant nk key pos e m four i old more j at))
 
--- AES-128: the step with round constant j
-pub keys-128 : (w : Width) (j : ℕ) {c : ℕ} {l₀ l l′ : List ℕ} → j < 10 → length l ≡ 88 → length l′ ≡ length l → c ≡ getD roundConstants j 0
-    → Keys w 4 (j + 1) l₀ l → Changes w (nextOf w 1 (keyPass c) l (8 * j + 8) 8) (8 * j + 8) l l′ → Keys w 4 (j + 1 + 1) l₀ l′
-keys-128 w j h e long ec =
-    keys-constant w 4 (omega arith) (omega arith) 1 j j 8 (8 * j) (j + 1) (j + 1 + 1) refl (omega arith) (omega arith) (omega arith) refl refl refl (omega arith) (omega arith) long ec
+-- ---- what a step adds and turns
+pub constant-later : (j p : ℕ) → (p ≡ 0 → ⊥) → 0 ≡ stepConstant j p
+unfolding stepConstant
+constant-later j zero h = absurd (h refl)
+constant-later j (suc p) h = refl
 
--- AES-256: the same, every second round key
-pub keys-256 : (w : Width) (j : ℕ) {c : ℕ} {l₀ l l′ : List ℕ} → j < 7 → length l ≡ 120 → length l′ ≡ length l → c ≡ getD roundConstants j 0
-    → Keys w 8 (2 * j + 2) l₀ l → Changes w (nextOf w 1 (keyPass c) l (16 * j + 8 + 8) 16) (16 * j + 8 + 8) l l′ → Keys w 8 (2 * (j + 1) + 1) l₀ l′
-keys-256 w j h e long ec =
-    keys-constant w 8 (omega arith) (omega arith) 2 (2 * j + 1) j 16 (16 * j + 8) (2 * j + 2) (2 * (j + 1) + 1) refl (omega arith) (omega arith) (omega arith) (omega arith) refl (omega arith) (omega arith) (omega arith) long ec
+pub rows-later : (p : ℕ) → (p ≡ 0 → ⊥) → 0 ≡ stepRows p
+unfolding stepRows
+rows-later zero h = absurd (h refl)
+rows-later (suc p) h = refl
 
--- and the ones between, with no constant
-pub keys-256-plain : (w : Width) (j : ℕ) {l₀ l l′ : List ℕ} → 1 ≤ j → j < 7 → length l ≡ 120 → length l′ ≡ length l
-    → Keys w 8 (2 * j + 1) l₀ l → Changes w (nextOf w 0 (keyPass 0) l (16 * j + 8) 16) (16 * j + 8) l l′ → Keys w 8 (2 * j + 2) l₀ l′
-keys-256-plain w j some h e long =
-    keys-more w 8 (omega arith) (omega arith) 0 2 (2 * j) 16 (16 * j) (2 * j + 1) (2 * j + 2) (keyPass 0) (omega arith) refl refl refl (omega arith) (omega arith) (omega arith) long
-    (λ key f. next-plain 8 key (omega arith) f 2 refl (2 * j) (omega arith) (omega arith) refl j (omega arith))
+pub rows-few : (p : ℕ) {n : ℕ} → n ≡ stepRows p → n < 2
+unfolding stepRows
+rows-few zero e = omega arith
+rows-few (suc p) e = omega arith
+
+-- ---- a turn, once over the key's length
+-- it has one of the ten constants, it does not begin before the first m keys end, and the next one begins m keys later
+two : (P : ℕ → Type 0) → P 1 → P 2 → (m : ℕ) → 1 ≤ m → m ≤ 2 → P m
+two P p q zero h k = absurd (omega arith)
+two P p q (suc zero) h k = p
+two P p q (suc (suc zero)) h k = q
+two P p q (suc (suc (suc m))) h k = absurd (omega arith)
+
+turn-facts : (m from j : ℕ) → 1 ≤ m → m ≤ 2 → from ≡ (j + 1) * m → (m ≤ from) × (from + m ≡ (j + 1 + 1) * m) × (8 * from < 8 * (4 * m + 7) → j < 10)
+turn-facts m from j some few =
+    two (λ (m : ℕ). from ≡ (j + 1) * m → (m ≤ from) × (from + m ≡ (j + 1 + 1) * m) × (8 * from < 8 * (4 * m + 7) → j < 10))
+    (λ e. (omega arith, omega arith, λ h. omega arith)) (λ e. (omega arith, omega arith, λ h. omega arith)) m some few
+
+module _ {m from j n : ℕ} (t : InTurn m from j n) where
+  pub turn-constant : j < 10
+  turn-constant = turn-facts m from j (t .some) (t .few) (t .begins) .2 (omega (arith, t .there, t .long))
+
+  pub turn-late : m ≤ from
+  turn-late = turn-facts m from j (t .some) (t .few) (t .begins) .0
+
+  pub turn-next : from + m ≡ (j + 1 + 1) * m
+  turn-next = turn-facts m from j (t .some) (t .few) (t .begins) .1
+
+pub turn-same : {m from j n k : ℕ} → k ≡ n → InTurn m from j n → InTurn m from j k
+turn-same {m} {from} {j} e t = rw e t
+
+-- key p of it, with round constant j
+keys-step : (w : Width) (m j from p : ℕ) {c n : ℕ} {l₀ l l′ : List ℕ} → 1 ≤ m → m ≤ 2 → p < m → from ≡ (j + 1) * m → 8 * (from + p) < length l → length l ≡ 8 * (4 * m + 7) → length l′ ≡ length l
+    → c ≡ stepConstant j p → n ≡ stepRows p → Keys w (4 * m) (from + p) l₀ l
+    → Changes w (nextOf w n (keyPass c) l (8 * (from + p) - 8 + 8) (8 * m)) (8 * (from + p) - 8 + 8) l l′ → Keys w (4 * m) (from + (p + 1)) l₀ l′
+unfolding stepConstant stepRows
+keys-step w zero j from p some few h e fits le long ec en ks d = absurd (omega arith)
+keys-step w (suc zero) j from zero some few h e fits le long ec en ks d =
+    keys-constant w 4 (omega arith) (omega arith) 1 (from - 1) j 8 (8 * (from + 0) - 8) (from + 0) (from + (0 + 1)) refl (omega arith) (omega arith) (omega arith) (omega arith) refl (omega arith) (omega arith)
+    (omega arith) long ec ks (rw en at d)
+keys-step w (suc zero) j from (suc p) some few h e fits le long ec en ks d = absurd (omega arith)
+keys-step w (suc (suc zero)) j from zero some few h e fits le long ec en ks d =
+    keys-constant w 8 (omega arith) (omega arith) 2 (from - 1) j 16 (8 * (from + 0) - 8) (from + 0) (from + (0 + 1)) refl (omega arith) (omega arith) (omega arith) (omega arith) refl (omega arith) (omega arith)
+    (omega arith) long ec ks (rw en at d)
+keys-step w (suc (suc zero)) j from (suc zero) some few h e fits le long ec en ks d =
+    keys-more w 8 (omega arith) (omega arith) 0 2 from 16 (8 * (from + 1) - 8) (from + 1) (from + (1 + 1)) (keyPass 0) (omega arith) refl refl (omega arith) (omega arith) (omega arith) (omega arith) long
+    (λ key f. next-plain 8 key (omega arith) f 2 refl from (omega arith) (omega arith) refl (j + 1) (omega arith)) ks (rw (en, ec) at d)
+keys-step w (suc (suc zero)) j from (suc (suc p)) some few h e fits le long ec en ks d = absurd (omega arith)
+keys-step w (suc (suc (suc m))) j from p some few h e fits le long ec en ks d = absurd (omega arith)
+
+-- the schedule ends before key p: there are no more
+pub keys-end : {w : Width} {nk : ℕ} (p q : ℕ) {l₀ l : List ℕ} → length l ≤ 8 * p → Keys w nk p l₀ l → Keys w nk q l₀ l
+keys-end p q h ks = record { at = λ b c r k g. ks .at b c r (omega arith) g }
+
+-- so one step of the turn leaves one key more, or there was no room for it
+pub grows-step : (w : Width) (m j from p : ℕ) {c n : ℕ} {l l′ : List ℕ} → InTurn m from j (length l) → p < m → 8 * (from + p) < length l → length l′ ≡ length l
+    → c ≡ stepConstant j p → n ≡ stepRows p
+    → Changes w (nextOf w n (keyPass c) l (8 * (from + p) - 8 + 8) (8 * m)) (8 * (from + p) - 8 + 8) l l′ → Grows w (4 * m) (from + p) (from + (p + 1)) l l′
+grows-step w m j from p t h fits long ec en d = record { more = λ l₀ ks. keys-step w m j from p (t .some) (t .few) h (t .begins) fits (t .long) long ec en ks d }
+
+pub grows-end : {w : Width} {nk : ℕ} (p q : ℕ) {l : List ℕ} → length l ≤ 8 * p → Grows w nk p q l l
+grows-end p q h = record { more = λ l₀ ks. keys-end p q h ks }
+
+pub grows-none : {w : Width} {nk p : ℕ} {l : List ℕ} → Grows w nk p (p + 0) l l
+grows-none {p = p} = let e : p + 0 ≡ p = omega arith in record { more = λ l₀ ks. rw e ks }
+
+pub grows-on : {w : Width} {nk p q r : ℕ} {k l m : List ℕ} → Grows w nk p q k l → Grows w nk q r l m → Grows w nk p r k m
+grows-on f g = record { more = λ l₀ ks. g .more l₀ (f .more l₀ ks) }
 
 -- ---- the key in every slot
 -- sixteen bytes,

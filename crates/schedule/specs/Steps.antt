@@ -1,9 +1,9 @@
 -- What the parts of the key expansion do to a schedule (docs/SCOPE.md, "The rounds"): the contracts of the inner functions cite these.
 use mathlib.Core.Path.{_≡_}
 use mathlib.Core.List.{List, _++_}
-use Prim.Native.Nat.{ℕ, suc, _+_, _-_, _*_, _≤_, _<_}
-use lib.ListN.{take, length}
-use Rattle.fips197.specs.Aes.{sixteen, keyWords, subBytes}
+use Prim.Native.Nat.{ℕ, zero, suc, _+_, _-_, _*_, _≤_, _<_}
+use lib.ListN.{getD, take, length}
+use Rattle.fips197.specs.Aes.{sixteen, keyWords, subBytes, roundConstants}
 use Rattle.lanes.specs.Layout.{Width, slots, slot}
 use Rattle.lanes.specs.Leaves.{addConstant, keyColumns}
 use Rattle.lanes.specs.Schedule.{wordsAt, stored}
@@ -21,9 +21,30 @@ nextOf w n pass l at back b x = keyColumns n (slot w (wordsAt l (at - back)) b) 
 abbrev pub startKey : Width → ℕ → List ℕ → ℕ → List ℕ
 startKey w nk l b = take (4 * nk) (stored w l b 0 ++ stored w l b 1)
 
--- in each slot of m, round keys 0 to n - 1 are FIPS-197's, of the key that stood in that slot of l
+-- the turn with round constant j begins at round key `from`, which a schedule of n words has; m is Nk / 4, for AES-128 and AES-256
+pub record InTurn (m from j n : ℕ) : Type 0 where
+  pub some : 1 ≤ m
+  pub few : m ≤ 2
+  pub begins : from ≡ (j + 1) * m
+  pub there : 8 * from < n
+  pub long : n ≡ 8 * (4 * m + 7)
+
+-- what the step to key p of a turn adds, and the rows by which it turns the last column: only the first has round constant j and a row
+unfoldable pub stepConstant : ℕ → ℕ → ℕ
+stepConstant j zero = getD roundConstants j 0
+stepConstant j (suc p) = 0
+
+unfoldable pub stepRows : ℕ → ℕ
+stepRows zero = 1
+stepRows (suc p) = 0
+
+-- in each slot of m, round keys 0 to n - 1, where there are so many, are FIPS-197's, of the key that stood in that slot of l
 pub record Keys (w : Width) (nk n : ℕ) (l m : List ℕ) : Type 0 where
-  pub at : (b : ℕ) → b < slots w → (r : ℕ) → r < n → stored w m b r ≡ sixteen (keyWords nk (startKey w nk l b)) r
+  pub at : (b : ℕ) → b < slots w → (r : ℕ) → r < n → 8 * r + 8 ≤ length m → stored w m b r ≡ sixteen (keyWords nk (startKey w nk l b)) r
+
+-- where l has p round keys, m has q of the same key
+pub record Grows (w : Width) (nk p q : ℕ) (l m : List ℕ) : Type 0 where
+  pub more : (l₀ : List ℕ) → Keys w nk p l₀ l → Keys w nk q l₀ m
 
 -- in each slot, the round keys from 1 up to n, n not counted, went through f; the others are as they were
 pub record Adjusted (w : Width) (f : ℕ → List ℕ → List ℕ) (n : ℕ) (l m : List ℕ) : Type 0 where

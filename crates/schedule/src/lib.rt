@@ -4,15 +4,28 @@ pub mod w64;
 
 ghost use mathlib.Core.Path.{_≡_};
 ghost use Prim.Native.Nat.{_<_};
-ghost use lib.ListN.{getD};
-ghost use Rattle.fips197.specs.Aes.{roundConstants};
+ghost use Rattle.schedule.specs.Steps.{stepConstant, stepRows};
 
 // The ten round constants; their set bits choose the words to flip. AES-256 uses the first seven.
 const ROUND_CONSTANTS: [u8; 10] = [0x01, 0x02, 0x04, 0x08, 0x10, 0x20, 0x40, 0x80, 0x1b, 0x36];
 
-fn round_constant(i: usize) -> u8
-    requires { ⌜ i < 10 ⌝ }
-    ensures { λ r. ⌜ r ≡ getD roundConstants i 0 ⌝ }
+// What the step to key p of a turn adds: only the first of them has a round constant.
+fn step_constant(rcon: usize, p: usize) -> u8
+    requires { ⌜ rcon < 10 ⌝ }
+    ensures { λ r. ⌜ r ≡ stepConstant rcon p ⌝ }
 {
-    ROUND_CONSTANTS[i]
+    if p == 0 {
+        return ROUND_CONSTANTS[rcon];
+    }
+    0
+}
+
+// The rows by which it turns the last column.
+fn step_rows(p: usize) -> u32
+    ensures { λ r. ⌜ r ≡ stepRows p ⌝ }
+{
+    if p == 0 {
+        return 1;
+    }
+    0 // columns only
 }

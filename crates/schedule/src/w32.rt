@@ -6,7 +6,7 @@ ghost use Rattle.fips197.specs.Aes.{subBytes};
 ghost use Rattle.lanes.specs.Layout.{w32, Does, all};
 ghost use Rattle.lanes.specs.Leaves.{add63, rowsUnshifted};
 ghost use Rattle.lanes.specs.Schedule.{Changes, scheduleOf};
-ghost use Rattle.schedule.specs.Steps.{keyPass, nextOf, Keys, Adjusted};
+ghost use Rattle.schedule.specs.Steps.{keyPass, nextOf, InTurn, Keys, Grows, Adjusted};
 use sbox::w32::sub_bytes_in;
 use sbox::w32::sub_bytes_nots_in;
 use utils::w32::add_round_constant;
@@ -47,7 +47,7 @@ fn key_pass(part: &mut [u32], constant: u8)
 }
 
 // The round key after the one at an offset, from that one and from the one `idx_xor` words before the new. The last column is turned by `rows`.
-// All steps go through this one function, so that the compiler joins its passes; a step with no constant adds 0.
+// A step with no constant adds 0.
 fn next_key(rkeys: &mut [u32], off: usize, idx_xor: usize, constant: u8, rows: u32)
     requires { ⌜ (8 ≤ «idx_xor») × («idx_xor» ≤ off + 8) × (off + 16 ≤ length (now rkeys)) × (rows < 2) ⌝ }
     ensures { λ r. ⌜ Changes w32 (nextOf w32 rows (keyPass constant) (now (rkeys .entry)) (off + 8) «idx_xor») (off + 8) (now (rkeys .entry)) (now (rkeys .exit)) ⌝ }
@@ -57,29 +57,41 @@ fn next_key(rkeys: &mut [u32], off: usize, idx_xor: usize, constant: u8, rows: u
     xor_columns(rkeys, off + 8, idx_xor, rows);
 }
 
-// Round keys 1 to 10 from round key 0.
-fn expand_128(rkeys: &mut [u32])
-    requires { ⌜ length (now rkeys) ≡ 88 ⌝ }
-    ensures { λ r. ⌜ Keys w32 4 11 (now (rkeys .entry)) (now (rkeys .exit)) ⌝ }
+// Round key `from` + p, if the schedule has it: key p of the turn with a round constant, which begins at key `from`.
+fn turn_key(rkeys: &mut [u32], m: usize, from: usize, rcon: usize, p: usize)
+    requires { ⌜ InTurn m from rcon (length (now rkeys)) × (p < m) ⌝ }
+    ensures { λ r. ⌜ Grows w32 (4 * m) (from + p) (from + (p + 1)) (now (rkeys .entry)) (now (rkeys .exit)) ⌝ }
 {
-    for rcon in 0..10 {
-        next_key(rkeys, 8 * rcon, 8, super::round_constant(rcon), 1);
+    let off = 8 * (from + p);
+    if off >= rkeys.len() {
+        return;
+    }
+    let constant = super::step_constant(rcon, p);
+    let rows = super::step_rows(p);
+    next_key(rkeys, off - 8, 8 * m, constant, rows);
+}
+
+// The m round keys of one round constant; AES-256's last turn has one only. A loop in the loop of `expand`, as in crate cipher (docs/SPEED.md).
+fn turn(rkeys: &mut [u32], m: usize, from: usize, rcon: usize)
+    requires { ⌜ InTurn m from rcon (length (now rkeys)) ⌝ }
+    ensures { λ r. ⌜ Grows w32 (4 * m) from (from + m) (now (rkeys .entry)) (now (rkeys .exit)) ⌝ }
+{
+    for p in 0..m {
+        turn_key(rkeys, m, from, rcon, p);
     }
 }
 
-// Round keys 2 to 14 from round keys 0 and 1: every second step has no constant and turns columns only. The loop is left from its middle.
-fn expand_256(rkeys: &mut [u32])
-    requires { ⌜ length (now rkeys) ≡ 120 ⌝ }
-    ensures { λ r. ⌜ Keys w32 8 15 (now (rkeys .entry)) (now (rkeys .exit)) ⌝ }
+// All further round keys from the first m: m is 1 in AES-128 and 2 in AES-256.
+fn expand(rkeys: &mut [u32], m: usize)
+    requires { ⌜ (1 ≤ m) × (m ≤ 2) × (length (now rkeys) ≡ 8 * (4 * m + 7)) ⌝ }
+    ensures { λ r. ⌜ Keys w32 (4 * m) (4 * m + 7) (now (rkeys .entry)) (now (rkeys .exit)) ⌝ }
 {
+    let mut from = m;
     let mut rcon: usize = 0;
-    loop {
-        next_key(rkeys, 16 * rcon + 8, 16, super::round_constant(rcon), 1);
+    while 8 * from < rkeys.len() {
+        turn(rkeys, m, from, rcon);
+        from += m;
         rcon += 1;
-        if rcon == 7 {
-            break;
-        }
-        next_key(rkeys, 16 * rcon, 16, 0, 0);
     }
 }
 
@@ -123,7 +135,7 @@ pub fn key_schedule_128(key: &[u8], rkeys: &mut [u32])
     ensures { λ r. ⌜ now (rkeys .exit) ≡ scheduleOf w32 4 (now (key .entry)) ⌝ }
 {
     load_key(rkeys, 0, key);
-    expand_128(rkeys);
+    expand(rkeys, 1);
     inv_shift_keys(rkeys, 10);
     not_keys(rkeys, 11);
 }
@@ -135,7 +147,7 @@ pub fn key_schedule_256(key: &[u8], rkeys: &mut [u32])
 {
     load_key(rkeys, 0, &key[0..16]);
     load_key(rkeys, 8, &key[16..32]);
-    expand_256(rkeys);
+    expand(rkeys, 2);
     inv_shift_keys(rkeys, 14);
     not_keys(rkeys, 15);
 }

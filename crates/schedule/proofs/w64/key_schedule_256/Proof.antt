@@ -18,11 +18,11 @@ returns c =
     let second = expand .before .before .before .before in
     let load = second .before .before .before .before .before in
     let start = load .before .before .before .before .before in
-    let e₁ : length (expand .expand-256 .last .0) ≡ 120 = expand .expand-256 .kept .0 ∙ second .load-key2 .kept .0 ∙ load .load-key .kept .0 ∙ start .pre .1 in
+    let e₁ : length (expand .expand .last .0) ≡ 120 = expand .expand .kept .0 ∙ second .load-key2 .kept .0 ∙ load .load-key .kept .0 ∙ start .pre .1 in
     whole w64 8 14 (start .args .key .now) _ _ _ _ refl (omega arith) (start .pre .0) (byte-fit (start .args .key .now) (load .before .before .before .before .shared-slice-known .given)) e₁
     (nots .not-keys .kept .0 ∙ shifts .inv-shift-keys .kept .0 ∙ e₁) (slice-fit w64 _ (c .slice-known6 .given))
     (start-32 w64 (start .pre .0) (omega arith) (load .load-key .kept .0) (second .load-key2 .kept .0) (load .load-key .ensures) (second .load-key2 .ensures))
-    (expand .expand-256 .ensures) (shifts .inv-shift-keys .ensures) (nots .not-keys .ensures)
+    (expand .expand .ensures) (shifts .inv-shift-keys .ensures) (nots .not-keys .ensures)
 
 pub key-schedule-256-spec : {M : Type 1} → statement M
 key-schedule-256-spec =
