@@ -1,6 +1,6 @@
 #!/usr/bin/env python3
-"""Writes tests/data/kat.txt, and a copy as the input of the program crates/vectors_main: the published AES known answers for
-128- and 256-bit keys, one block a line:
+"""Writes crates/vectors_main/stdin, the input of that program: the published AES known answers for 128- and 256-bit keys,
+one block a line:
 
     KEY PLAINTEXT CIPHERTEXT
 
@@ -71,12 +71,12 @@ def main():
         records.update(dict.fromkeys(blocks(text)))
         print(f"{name:14} {len(records) - before}")
     agreed = checked(list(records))
-    for path in "../tests/data/kat.txt", "../crates/vectors_main/stdin":
-        with open(os.path.join(os.path.dirname(os.path.abspath(__file__)), path), "w") as file:
-            file.writelines(" ".join(record) + "\n" for record in records)
+    path = os.path.join(os.path.dirname(os.path.abspath(__file__)), "../crates/vectors_main/stdin")
+    with open(path, "w") as file:
+        file.writelines(" ".join(record) + "\n" for record in records)
     if agreed is None:
         print("skipped: the check by OpenSSL, since Python's `cryptography` is not installed")
-    print(f"ok vectors: {len(records)} records in tests/data/kat.txt, {agreed or 0} agreed by OpenSSL in both directions")
+    print(f"ok vectors: {len(records)} records in crates/vectors_main/stdin, {agreed or 0} agreed by OpenSSL in both directions")
 
 
 main()

@@ -1,9 +1,9 @@
 #!/bin/sh
-# Writes the Rust's answers as fixed lists, for a Rattle program to replay where there is no Rust:
-#   tests/data/oracle_sample.txt, tests/data/schedules.txt, and their copies in crates/
+# Writes the Rust's answers as fixed lists, for Rattle programs to replay where there is no Rust:
+#   crates/replay_main/stdin and crates/schedules_main/stdout
 # Ours is not asked. The lists come out the same each time; `sample.sh check` compares instead of writing.
 #
-# oracle_sample.txt: one record a line, fields between single spaces, lowercase hex, each line ended by one newline.
+# replay_main/stdin: one record a line, fields between single spaces, lowercase hex, each line ended by one newline.
 # The first letter gives the kind, and the kind every field's length:
 #   a KEY SCHEDULE INPUT ENCRYPTED DECRYPTED CHECK    16-byte key (32 digits), 88 words of 8 digits, 32-byte batches (64 digits)
 #   b the same                                        32-byte key (64), 120 words of 8, 32-byte batches (64)
@@ -13,23 +13,20 @@
 # A SCHEDULE's words follow each other with nothing between, each most significant digit first. ENCRYPTED and
 # DECRYPTED are what encryption and decryption of INPUT give under SCHEDULE, and CHECK (6 digits) is its key check value.
 #
-# schedules.txt: the keys of FIPS-197's Appendix A.1 and A.3 at each width: a line `WIDTH KEY`, then the words,
+# schedules_main/stdout: the keys of FIPS-197's Appendix A.1 and A.3 at each width: a line `WIDTH KEY`, then the words,
 # 8 a line between single spaces (11 or 15 lines, one for each round key).
 top=$(cd "$(dirname "$0")/../.." && pwd)
 . "$top/tools/common.sh"
 . "$top/tests/oracle/build.sh"
 rust_program "$out/sample" tests/oracle/sample.rs
-# Each list has a copy in a program's crate: replay_main replays the answers, schedules_main is held to the schedules.
-for list in answers:oracle_sample:replay_main/stdin schedules:schedules:schedules_main/stdout; do
-    rest=${list#*:}
-    file=${rest%:*}.txt
-    "$out/sample" "${list%%:*}" >"$out/$file"
-    for to in "tests/data/$file" "crates/${rest#*:}"; do
-        if [ "${1:-}" = check ]; then
-            cmp "$out/$file" "$to" || fail "$to is not what the Rust gives"
-        else
-            cp "$out/$file" "$to"
-        fi
-    done
+for list in answers:replay_main/stdin schedules:schedules_main/stdout; do
+    file=$out/${list%%:*}.txt
+    to=crates/${list#*:}
+    "$out/sample" "${list%%:*}" >"$file"
+    if [ "${1:-}" = check ]; then
+        cmp "$file" "$to" || fail "$to is not what the Rust gives"
+    else
+        cp "$file" "$to"
+    fi
 done
-echo "ok sample: $(wc -l <"$out/oracle_sample.txt") records in oracle_sample.txt, $(grep -c '^[36][24] ' "$out/schedules.txt") schedules in schedules.txt"
+echo "ok sample: $(wc -l <"$out/answers.txt") records in replay_main/stdin, $(grep -c '^[36][24] ' "$out/schedules.txt") schedules in schedules_main/stdout"

@@ -18,8 +18,14 @@ use Rattle.cipher.proofs.Batches.{keys}
 use Rattle.aes.specs.Outcome.{Outcome, answers, pick, keyWordsOf, scheduleWords, roundsOf, expandOutcome, cryptOutcome, checkValue, checkOutcome}
 
 -- ---- a promise settles the number and every byte: one law for every call
+pub same-number : {r r′ : ℕ} {x x′ : List ℕ} → answers r x ≡ answers r′ x′ → r ≡ r′
+same-number e = cc
+
+pub same-buffer : {r r′ : ℕ} {x x′ : List ℕ} → answers r x ≡ answers r′ x′ → x ≡ x′
+same-buffer e = cc
+
 pub settled : (out : Outcome) {r r′ : ℕ} {x x′ : List ℕ} → answers r x ≡ out → answers r′ x′ ≡ out → (r ≡ r′) × (x ≡ x′)
-settled out {r} {r′} {x} {x′} e e′ = let g : answers r x ≡ answers r′ x′ = e ∙ sym e′ in (cc, cc)
+settled out e e′ = (same-number (e ∙ sym e′), same-buffer (e ∙ sym e′))
 
 -- ---- the length of a schedule
 rounds-case : (P : ℕ → ℕ → Type 0) → P 88 10 → P 120 14 → (n : ℕ) → (roundsOf n ≡ 0 → ⊥) → P n (roundsOf n)
@@ -76,7 +82,7 @@ module _ (w : Width) (s o : List ℕ) {m : ℕ} (r : m ≡ roundsOf (length s)) 
   unfolding checkOutcome
   check-0 {x} p q e = rw (ne-eqb (roundsOf (length s)) 0 (λ e. p (r ∙ e)), eq-eqb (length o) 3 q, e, r)
 
-zero-block : Block (replicate 16 0)
+pub zero-block : Block (replicate 16 0)
 zero-block = record { long = refl; bytes = fit-test 8 (replicate 16 0) tt }
 
 -- the first three bytes of an encrypted batch of zeros are slot 0's

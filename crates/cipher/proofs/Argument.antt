@@ -2,25 +2,22 @@
 -- inverse row shifts, because SubBytes commutes with ShiftRows, form r of MixColumns is MixColumns between r row shifts, and the stored key
 -- r holds the same shifts and the missing 63. Decryption undoes encryption step by step, so it is InvCipher. Assumes nothing.
 use mathlib.Core.Path.{_≡_, refl, sym, ap, ap₂, _∙_, subst₂}
-use mathlib.Core.List.{List, _++_, map}
-use mathlib.Core.Bool.{Bool, true, false}
-use Prim.Native.Nat.{ℕ, zero, suc, _+_, _-_, _*_, _%_, _≤_, _<_}
+use mathlib.Core.List.{List, map}
+use Prim.Native.Nat.{ℕ, zero, suc, _+_, _-_, _%_, _≤_, _<_}
 use native.Mathlib.Omega.{arith}
 use native.Mathlib.Nat.{add-zero, zero-add}
 use native.Mathlib.Numerals.{add-one}
-use lib.Dec.{eqb}
-use lib.ListN.{getD}
 use borrow.Author.Tests.{eq-eqb, ne-eqb}
-use Rattle.fips197.specs.Aes.{Fit, Block, range, choose, product, xtime, subBytes, invSubBytes, shiftRows, invShiftRows, mixColumns, addRoundKey, rounds, cipher, invCipher}
-use Rattle.fips197.proofs.Layers.{Bytes, blockOf, shiftRowsOf, invShiftRowsOf, mixColumnsOf, addRoundKeyOf}
-use Rattle.fips197.proofs.Blocks.{reads, block-is, fit-append, fit-reads, sub-block, mix-block, invMix-block, add-block}
-use Rattle.fips197.proofs.Laws.{layers, sub-shift, invSub-sub, sub-invSub, shift-four, invMix-mix, mix-invMix, add-add}
+use Rattle.fips197.specs.Aes.{Block, range, product, xtime, subBytes, invSubBytes, shiftRows, invShiftRows, mixColumns, addRoundKey, rounds, cipher, invCipher}
+use Rattle.fips197.proofs.Layers.{Bytes, mixColumnsOf, addRoundKeyOf}
+use Rattle.fips197.proofs.Blocks.{reads, block-is, sub-block, mix-block, invMix-block, add-block}
+use Rattle.fips197.proofs.Laws.{layers, front, back, pair, pair-fits, sub-shift, invSub-sub, sub-invSub, shift-four, invMix-mix, mix-invMix, add-add}
 use Rattle.fips197.proofs.Ciphers.{Blocks, none, more, cipher-invCipher, invCipher-block}
 use Rattle.lanes.specs.Leaves.{add63, bareSubBytes, invBareSubBytes, rowsShifted, rowsUnshifted, mixForm, invMixForm}
 use Rattle.lanes.specs.Schedule.{readKey}
-use Rattle.lanes.proofs.Linear.{four}
-use Rattle.lanes.proofs.Rows.{add63-block, shifted-block, unshifted-block, add63-twice, unshifted-shifted, shifted-unshifted}
-use Rattle.cipher.specs.Fixslice.{roundsTo, fixCipher, undoneFrom, fixInvCipher}
+use Rattle.lanes.proofs.Linear.{four, rowsShiftedOf, mixFormOf, add63Of}
+use Rattle.lanes.proofs.Rows.{add63-block, read-block, shifted-block, unshifted-block, add63-twice, unshifted-shifted, shifted-unshifted}
+use Rattle.cipher.specs.Fixslice.{roundsFrom, fixCipher, undoneTo, fixInvCipher}
 
 -- ---- blocks stay blocks
 pub bare-block : {s : List ℕ} → Block s → Block (bareSubBytes s)
@@ -32,38 +29,13 @@ unfolding mixForm
 form-block i b = unshifted-block i (mix-block (shifted-block i b))
 
 -- ---- the linear steps, by the check
--- two blocks, one after the other
-abbrev front : {A : Type 0} → Bytes A → List A → List A
-front o l = blockOf o (λ r c. getD l (r + 4 * c) (o .null))
-
-abbrev back : {A : Type 0} → Bytes A → List A → List A
-back o l = blockOf o (λ r c. getD l (16 + (r + 4 * c)) (o .null))
-
 module _ {A : Type 0} (o : Bytes A) where
-  abbrev add63Of : List A → List A
-  add63Of s = blockOf o (λ r c. o .xor (getD s (r + 4 * c) (o .null)) (o .byte 0x63))
-
-  abbrev rowsShiftedOf : ℕ → List A → List A
-  rowsShiftedOf zero s = s
-  rowsShiftedOf (suc n) s = shiftRowsOf o (rowsShiftedOf n s)
-
-  abbrev rowsUnshiftedOf : ℕ → List A → List A
-  rowsUnshiftedOf zero s = s
-  rowsUnshiftedOf (suc n) s = invShiftRowsOf o (rowsUnshiftedOf n s)
-
   -- a round of form j on the S-box's bare result, with the rows shifted back; and FIPS-197's round
   abbrev fixOf : ℕ → List A → List A
-  fixOf j l = rowsShiftedOf j (addRoundKeyOf o (rowsUnshiftedOf j (mixColumnsOf o (rowsShiftedOf j (add63Of (front o l))))) (back o l))
+  fixOf j l = rowsShiftedOf o j (addRoundKeyOf o (mixFormOf o j (add63Of o (front o l))) (back o l))
 
   abbrev roundOf : ℕ → List A → List A
-  roundOf j l = addRoundKeyOf o (mixColumnsOf o (rowsShiftedOf j (front o l))) (rowsShiftedOf j (add63Of (back o l)))
-
-pairs : List ℕ → List ℕ → List ℕ
-pairs s t = reads 0 16 s ++ reads 0 16 t
-
-pairs-fit : {s t : List ℕ} → Block s → Block t → Fit 8 (pairs s t)
-unfolding pairs
-pairs-fit b d = fit-append (fit-reads 0 16 (b .bytes)) (fit-reads 0 16 (d .bytes))
+  roundOf j l = addRoundKeyOf o (mixColumnsOf o (rowsShiftedOf o j (front o l))) (rowsShiftedOf o j (add63Of o (back o l)))
 
 -- what form j of a round does, on the elements of two blocks
 abbrev Step : List ℕ → List ℕ → ℕ → Type 0
@@ -71,20 +43,20 @@ Step t k j = rowsShifted j (addRoundKey (mixForm j (add63 (reads 0 16 t))) (read
 
 module _ {t k : List ℕ} (b : Block t) (d : Block k) where
   step-0 : Step t k 0
-  unfolding rowsShifted rowsUnshifted mixForm add63 addRoundKey mixColumns shiftRows invShiftRows product xtime pairs
-  step-0 = layers 32 (λ A o l. fixOf o 0 l) (λ A o l. roundOf o 0 l) (pairs t k) (pairs-fit b d) tt
+  unfolding rowsShifted rowsUnshifted mixForm add63 addRoundKey mixColumns shiftRows invShiftRows product xtime pair
+  step-0 = layers 32 (λ A o l. fixOf o 0 l) (λ A o l. roundOf o 0 l) (pair b d) (pair-fits b d) tt
 
   step-1 : Step t k 1
-  unfolding rowsShifted rowsUnshifted mixForm add63 addRoundKey mixColumns shiftRows invShiftRows product xtime pairs
-  step-1 = layers 32 (λ A o l. fixOf o 1 l) (λ A o l. roundOf o 1 l) (pairs t k) (pairs-fit b d) tt
+  unfolding rowsShifted rowsUnshifted mixForm add63 addRoundKey mixColumns shiftRows invShiftRows product xtime pair
+  step-1 = layers 32 (λ A o l. fixOf o 1 l) (λ A o l. roundOf o 1 l) (pair b d) (pair-fits b d) tt
 
   step-2 : Step t k 2
-  unfolding rowsShifted rowsUnshifted mixForm add63 addRoundKey mixColumns shiftRows invShiftRows product xtime pairs
-  step-2 = layers 32 (λ A o l. fixOf o 2 l) (λ A o l. roundOf o 2 l) (pairs t k) (pairs-fit b d) tt
+  unfolding rowsShifted rowsUnshifted mixForm add63 addRoundKey mixColumns shiftRows invShiftRows product xtime pair
+  step-2 = layers 32 (λ A o l. fixOf o 2 l) (λ A o l. roundOf o 2 l) (pair b d) (pair-fits b d) tt
 
   step-3 : Step t k 3
-  unfolding rowsShifted rowsUnshifted mixForm add63 addRoundKey mixColumns shiftRows invShiftRows product xtime pairs
-  step-3 = layers 32 (λ A o l. fixOf o 3 l) (λ A o l. roundOf o 3 l) (pairs t k) (pairs-fit b d) tt
+  unfolding rowsShifted rowsUnshifted mixForm add63 addRoundKey mixColumns shiftRows invShiftRows product xtime pair
+  step-3 = layers 32 (λ A o l. fixOf o 3 l) (λ A o l. roundOf o 3 l) (pair b d) (pair-fits b d) tt
 
   -- form j is MixColumns between j row shifts, the key holds the same shifts, and MixColumns leaves the 63 as it is
   pub step : (j : ℕ) → j < 4 → rowsShifted j (addRoundKey (mixForm j (add63 t)) k) ≡ addRoundKey (mixColumns (rowsShifted j t)) (rowsShifted j (add63 k))
@@ -92,9 +64,9 @@ module _ {t k : List ℕ} (b : Block t) (d : Block k) where
 
   -- the last round's key holds the missing 63
   pub last-63 : addRoundKey (add63 t) k ≡ addRoundKey t (add63 k)
-  unfolding add63 addRoundKey pairs
+  unfolding add63 addRoundKey pair
   last-63 = subst₂ (λ (x y : List ℕ). addRoundKey (add63 x) y ≡ addRoundKey x (add63 y)) (block-is b) (block-is d)
-      (layers 32 (λ A o l. addRoundKeyOf o (add63Of o (front o l)) (back o l)) (λ A o l. addRoundKeyOf o (front o l) (add63Of o (back o l))) (pairs t k) (pairs-fit b d) tt)
+      (layers 32 (λ A o l. addRoundKeyOf o (add63Of o (front o l)) (back o l)) (λ A o l. addRoundKeyOf o (front o l) (add63Of o (back o l))) (pair b d) (pair-fits b d) tt)
 
 -- ---- what undoes what
 -- inv_sub_bytes is the exact inverse of sub_bytes, both ways round
@@ -134,6 +106,9 @@ sub-shifted b (suc n) = sub-shift (shifted-block n b) ∙ ap shiftRows (sub-shif
 mod-lt-4 : (n : ℕ) → n % 4 < 4
 mod-lt-4 n = omega arith
 
+one-add : (m : ℕ) → 1 + m ≡ suc m
+one-add m = omega arith
+
 -- ShiftRows once more, counted modulo four
 shifted-more : {s : List ℕ} → Block s → (m : ℕ) → rowsShifted (suc m % 4) s ≡ shiftRows (rowsShifted (m % 4) s)
 shifted-more {s} b m =
@@ -172,33 +147,20 @@ read-last : (d : ℕ) (k : List ℕ) → readKey (suc d) (suc d) k ≡ add63 k
 unfolding readKey
 read-last d k = rw (eq-eqb (suc d) (suc d) refl)
 
-read-first : (n : ℕ) (k : List ℕ) → readKey n 0 k ≡ k
-unfolding readKey
-read-first n k = refl
-
-pub read-block : (n r : ℕ) {k : List ℕ} → Block k → Block (readKey n r k)
-unfolding readKey
-read-block n zero b = b
-read-block n (suc r) b = pick (eqb (suc r) n) (add63-block b) (shifted-block (suc r % 4) (add63-block b))
-  where
-    pick : (t : Bool) {u v : List ℕ} → Block u → Block v → Block (choose t u v)
-    pick true c d = c
-    pick false c d = d
-
 module _ (k : ℕ → List ℕ) (bs : (r : ℕ) → Block (k r)) where
-  pub rounds-block : {x : List ℕ} → Block x → (m : ℕ) → Block (roundsTo k m x)
-  unfolding roundsTo
+  pub rounds-block : {x : List ℕ} → Block x → (m : ℕ) → Block (roundsFrom k 1 m x)
+  unfolding roundsFrom
   rounds-block b zero = b
-  rounds-block b (suc m) = add-block (form-block (suc m % 4) (bare-block (rounds-block b m))) (bs (suc m))
+  rounds-block b (suc m) = add-block (form-block ((1 + m) % 4) (bare-block (rounds-block b m))) (bs (1 + m))
 
   -- after m rounds the state is FIPS-197's with m inverse row shifts
-  behind : (n : ℕ) {x : List ℕ} → Block x → (m : ℕ) → m < n → rowsShifted (m % 4) (roundsTo k m x) ≡ fips (λ r. readKey n r (k r)) m x
-  unfolding roundsTo fips bareSubBytes rowsShifted
+  behind : (n : ℕ) {x : List ℕ} → Block x → (m : ℕ) → m < n → rowsShifted (m % 4) (roundsFrom k 1 m x) ≡ fips (λ r. readKey n r (k r)) m x
+  unfolding roundsFrom fips bareSubBytes rowsShifted
   behind n b zero h = refl
   behind n {x} b (suc m) h =
-      let X : List ℕ = roundsTo k m x in
-      let c : Block X = rounds-block b m in
-      step (sub-block c) (bs (suc m)) (suc m % 4) (mod-lt-4 (suc m))
+      let c : Block (roundsFrom k 1 m x) = rounds-block b m in
+      ap (λ (i : ℕ). rowsShifted (suc m % 4) (addRoundKey (mixForm (i % 4) (add63 (subBytes (roundsFrom k 1 m x)))) (k i))) (one-add m)
+      ∙ step (sub-block c) (bs (suc m)) (suc m % 4) (mod-lt-4 (suc m))
       ∙ ap₂ (λ (u v : List ℕ). addRoundKey (mixColumns u) v)
       (shifted-more (sub-block c) m ∙ ap shiftRows (sym (sub-shifted c (m % 4)) ∙ ap subBytes (behind n b m (omega arith))))
       (sym (read-middle n m (k (suc m)) (λ e. omega arith)))
@@ -215,11 +177,11 @@ module _ (k : ℕ → List ℕ) (bs : (r : ℕ) → Block (k r)) where
       x₀ : List ℕ
       x₀ = addRoundKey x (k 0)
 
-      c : Block (roundsTo k d x₀)
+      c : Block (roundsFrom k 1 d x₀)
       c = rounds-block (add-block b (bs 0)) d
 
       -- the rows of the S-box's result, shifted
-      rows : subBytes (rowsShifted (suc d % 4) (roundsTo k d x₀)) ≡ shiftRows (subBytes (fips rk d (addRoundKey x (rk 0))))
+      rows : subBytes (rowsShifted (suc d % 4) (roundsFrom k 1 d x₀)) ≡ shiftRows (subBytes (fips rk d (addRoundKey x (rk 0))))
       rows =
           sub-shifted c (suc d % 4)
           ∙ shifted-more (sub-block c) d
@@ -227,19 +189,19 @@ module _ (k : ℕ → List ℕ) (bs : (r : ℕ) → Block (k r)) where
 
       last : fixCipher k (suc d) x ≡ addRoundKey (shiftRows (subBytes (fips rk d (addRoundKey x (rk 0))))) (rk (suc d))
       last =
-          ap (λ (i : ℕ). addRoundKey (add63 (subBytes (rowsShifted (suc d % 4) (roundsTo k i x₀)))) (k (suc d))) (less d)
+          ap (λ (i : ℕ). addRoundKey (add63 (subBytes (rowsShifted (suc d % 4) (roundsFrom k 1 i x₀)))) (k (suc d))) (less d)
           ∙ last-63 (sub-block (shifted-block (suc d % 4) c)) (bs (suc d))
           ∙ ap₂ addRoundKey rows (sym (read-last d (k (suc d))))
         where
           less : (d : ℕ) → suc d - 1 ≡ d
           less d = omega arith
 
-  undone-done : {x : List ℕ} → Block x → (m : ℕ) → undoneFrom k m (roundsTo k m x) ≡ x
-  unfolding undoneFrom roundsTo
+  undone-done : {x : List ℕ} → Block x → (m : ℕ) → undoneTo k 1 m (roundsFrom k 1 m x) ≡ x
+  unfolding undoneTo roundsFrom
   undone-done b zero = refl
   undone-done b (suc m) =
       let c = bare-block (rounds-block b m) in
-      rw (add-add (form-block (suc m % 4) c) (bs (suc m)), invForm-form c (suc m % 4) (mod-lt-4 (suc m)), invBare-bare (rounds-block b m)) (undone-done b m)
+      rw (add-add (form-block ((1 + m) % 4) c) (bs (1 + m)), invForm-form c ((1 + m) % 4) (mod-lt-4 (1 + m)), invBare-bare (rounds-block b m)) (undone-done b m)
 
   -- decryption undoes encryption, step by step
   undoes : (n : ℕ) {x : List ℕ} → Block x → fixInvCipher k n (fixCipher k n x) ≡ x

@@ -12,7 +12,7 @@ use Rattle.fips197.proofs.Blocks.{fit-append, fit-nil, fit-take, fit-drop}
 use Rattle.fips197.proofs.Ciphers.{Blocks, cipher-block, invCipher-block, invCipher-cipher, cipher-invCipher}
 use Rattle.lanes.specs.Layout.{Width, w32, w64, slots, eachSlot, join}
 use Rattle.lanes.specs.Schedule.{reading, stored, encryptedBatch, decryptedBatch}
-use Rattle.lanes.proofs.Packing.{slot-block, each-same}
+use Rattle.lanes.proofs.Packing.{stored-block, each-same}
 use Rattle.cipher.specs.Batch.{Batch}
 use Rattle.cipher.proofs.Argument.{read-blocks}
 
@@ -77,7 +77,7 @@ join-batch w64 f d =
 module _ (w : Width) (n : ℕ) (l : List ℕ) where
   pub keys : (b : ℕ) → Blocks (reading w n l b)
   unfolding reading stored
-  keys b = read-blocks (stored w l b) (λ r. slot-block w _ b) n (n + 1) 0
+  keys b = read-blocks (stored w l b) (stored-block w l b) n (n + 1) 0
 
   module _ {i : List ℕ} (d : Batch w i) where
     pub encrypted-slot : (b : ℕ) → b < slots w → sixteen (encryptedBatch w n l i) b ≡ cipher (reading w n l b) (sixteen i b)

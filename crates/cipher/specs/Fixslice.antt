@@ -11,11 +11,6 @@ use Rattle.lanes.specs.Leaves.{bareSubBytes, invBareSubBytes, rowsShifted, rows
 abbrev pub fixRound : ℕ → List ℕ → List ℕ → List ℕ
 fixRound i k x = addRoundKey (mixForm i (bareSubBytes x)) k
 
--- rounds 1 to m
-unfoldable pub roundsTo : (ℕ → List ℕ) → ℕ → List ℕ → List ℕ
-roundsTo k zero x = x
-roundsTo k (suc m) x = fixRound (suc m % 4) (k (suc m)) (roundsTo k m x)
-
 -- n rounds, from number r on
 unfoldable pub roundsFrom : (ℕ → List ℕ) → ℕ → ℕ → List ℕ → List ℕ
 roundsFrom k r zero x = x
@@ -23,16 +18,11 @@ roundsFrom k r (suc n) x = fixRound ((r + n) % 4) (k (r + n)) (roundsFrom k r n 
 
 -- all n rounds: the row shifts that were left out are made up for before the last S-box
 unfoldable pub fixCipher : (ℕ → List ℕ) → ℕ → List ℕ → List ℕ
-fixCipher k n x = addRoundKey (bareSubBytes (rowsShifted (n % 4) (roundsTo k (n - 1) (addRoundKey x (k 0))))) (k n)
+fixCipher k n x = addRoundKey (bareSubBytes (rowsShifted (n % 4) (roundsFrom k 1 (n - 1) (addRoundKey x (k 0))))) (k n)
 
 -- one round of form i undone
 abbrev pub fixUnround : ℕ → List ℕ → List ℕ → List ℕ
 fixUnround i k x = invBareSubBytes (invMixForm i (addRoundKey x k))
-
--- rounds m to 1 undone, the highest first
-unfoldable pub undoneFrom : (ℕ → List ℕ) → ℕ → List ℕ → List ℕ
-undoneFrom k zero x = x
-undoneFrom k (suc m) x = undoneFrom k m (fixUnround (suc m % 4) (k (suc m)) x)
 
 -- n rounds undone, the highest first, down to number r
 unfoldable pub undoneTo : (ℕ → List ℕ) → ℕ → ℕ → List ℕ → List ℕ
@@ -41,20 +31,12 @@ undoneTo k r (suc n) x = undoneTo k r n (fixUnround ((r + n) % 4) (k (r + n)) x)
 
 -- all n rounds undone
 unfoldable pub fixInvCipher : (ℕ → List ℕ) → ℕ → List ℕ → List ℕ
-fixInvCipher k n x = addRoundKey (undoneFrom k (n - 1) (rowsUnshifted (n % 4) (invBareSubBytes (addRoundKey x (k n))))) (k 0)
+fixInvCipher k n x = addRoundKey (undoneTo k 1 (n - 1) (rowsUnshifted (n % 4) (invBareSubBytes (addRoundKey x (k n))))) (k 0)
 
 -- ---- in each slot of a schedule l
--- rounds 1 to m
-abbrev pub roundsIn : Width → List ℕ → ℕ → ℕ → List ℕ → List ℕ
-roundsIn w l m b x = roundsTo (stored w l b) m x
-
--- rounds m to 1 undone
-abbrev pub undoneIn : Width → List ℕ → ℕ → ℕ → List ℕ → List ℕ
-undoneIn w l m b x = undoneFrom (stored w l b) m x
-
 -- n rounds from number r on, and n rounds undone down to number r
-abbrev pub moreIn : Width → List ℕ → ℕ → ℕ → ℕ → List ℕ → List ℕ
-moreIn w l r n b x = roundsFrom (stored w l b) r n x
+abbrev pub roundsIn : Width → List ℕ → ℕ → ℕ → ℕ → List ℕ → List ℕ
+roundsIn w l r n b x = roundsFrom (stored w l b) r n x
 
-abbrev pub lessIn : Width → List ℕ → ℕ → ℕ → ℕ → List ℕ → List ℕ
-lessIn w l r n b x = undoneTo (stored w l b) r n x
+abbrev pub undoneIn : Width → List ℕ → ℕ → ℕ → ℕ → List ℕ → List ℕ
+undoneIn w l r n b x = undoneTo (stored w l b) r n x

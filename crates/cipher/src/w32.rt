@@ -4,7 +4,7 @@ ghost use Prim.Native.Nat.{_+_, _-_, _*_, _%_, _≤_};
 ghost use lib.ListN.{length};
 ghost use Rattle.lanes.specs.Layout.{w32, Does};
 ghost use Rattle.lanes.specs.Schedule.{encryptedBatch, decryptedBatch};
-ghost use Rattle.cipher.specs.Fixslice.{roundsIn, undoneIn, moreIn, lessIn};
+ghost use Rattle.cipher.specs.Fixslice.{roundsIn, undoneIn};
 use mix_columns::w32::inv_mix_columns;
 use mix_columns::w32::inv_mix_columns_1;
 use mix_columns::w32::mix_columns;
@@ -21,7 +21,7 @@ use word::w32::inv_bitslice;
 // They are a loop of their own because clang inlines the S-box only where it is called in a loop within a loop (docs/SPEED.md).
 fn three_rounds(first: [u32; 8], rkeys: &[u32], from: usize) -> [u32; 8]
     requires { ⌜ 8 * from + 24 ≤ length (now rkeys) ⌝ }
-    ensures { λ r. ⌜ Does w32 (moreIn w32 (now (rkeys .entry)) from 3) first r ⌝ }
+    ensures { λ r. ⌜ Does w32 (roundsIn w32 (now (rkeys .entry)) from 3) first r ⌝ }
 {
     let mut state = first;
     for i in 0..3 {
@@ -37,7 +37,7 @@ fn three_rounds(first: [u32; 8], rkeys: &[u32], from: usize) -> [u32; 8]
 // Rounds 1 to n - 1, four forms to a turn. The loop is left from its middle, before the key at offset 80 or 112.
 fn rounds(first: [u32; 8], rkeys: &[u32], n: usize) -> [u32; 8]
     requires { ⌜ (n % 4 ≡ 2) × (8 * n + 8 ≡ length (now rkeys)) ⌝ }
-    ensures { λ r. ⌜ Does w32 (roundsIn w32 (now (rkeys .entry)) (n - 1)) first r ⌝ }
+    ensures { λ r. ⌜ Does w32 (roundsIn w32 (now (rkeys .entry)) 1 (n - 1)) first r ⌝ }
 {
     let mut state = first;
     let mut r: usize = 1;
@@ -69,7 +69,7 @@ pub fn encrypt(schedule: &[u32], n: usize, input: &[u8], output: &mut [u8])
 // Three rounds undone, down to number `from`.
 fn three_unrounds(first: [u32; 8], rkeys: &[u32], from: usize) -> [u32; 8]
     requires { ⌜ 8 * from + 24 ≤ length (now rkeys) ⌝ }
-    ensures { λ r. ⌜ Does w32 (lessIn w32 (now (rkeys .entry)) from 3) first r ⌝ }
+    ensures { λ r. ⌜ Does w32 (undoneIn w32 (now (rkeys .entry)) from 3) first r ⌝ }
 {
     let mut state = first;
     for i in 0..3 {
@@ -85,7 +85,7 @@ fn three_unrounds(first: [u32; 8], rkeys: &[u32], from: usize) -> [u32; 8]
 // Rounds n - 1 to 1 undone, the forms in the opposite order.
 fn unrounds(first: [u32; 8], rkeys: &[u32], n: usize) -> [u32; 8]
     requires { ⌜ (n % 4 ≡ 2) × (8 * n + 8 ≡ length (now rkeys)) ⌝ }
-    ensures { λ r. ⌜ Does w32 (undoneIn w32 (now (rkeys .entry)) (n - 1)) first r ⌝ }
+    ensures { λ r. ⌜ Does w32 (undoneIn w32 (now (rkeys .entry)) 1 (n - 1)) first r ⌝ }
 {
     let mut state = first;
     let mut r: usize = n - 1;

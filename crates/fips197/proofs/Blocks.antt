@@ -3,13 +3,13 @@ use mathlib.Core.Path.{_≡_, refl, ap, _∙_}
 use mathlib.Core.List.{List, [], _∷_, _++_, map}
 use Prim.Native.Nat.{ℕ, zero, suc, _+_, _-_, _*_, _/_, _%_, _^_, _≤_, _<_}
 use native.Mathlib.Omega.{arith}
-use mathlib.Core.Bool.{Bool, true}
+use mathlib.Core.Bool.{Bool, true, false}
 use lib.Dec.{T, ltb, ltb→lt}
 use lib.Pow.{pow-pos}
 use lib.Bits.{bitXor, xor-lt}
 use lib.ListN.{getD, take, drop, length, length-map}
 use lib.Seq.{take-all, drop-cons}
-use Rattle.fips197.specs.Aes.{bit, both, range, Fit, Block, block, cell, xtime, productTo, product, addIf, sbox, invSbox, subBytes, invSubBytes, shiftRows, invShiftRows, mixColumns, invMixColumns, addRoundKey}
+use Rattle.fips197.specs.Aes.{bit, both, choose, range, Fit, Block, block, cell, xtime, productTo, product, addIf, sbox, invSbox, subBytes, invSubBytes, shiftRows, invShiftRows, mixColumns, invMixColumns, addRoundKey}
 use Rattle.fips197.proofs.Bits.{bit-lt}
 use Rattle.fips197.proofs.Linear.{both-left, both-right}
 use Rattle.fips197.proofs.Tables.{sbox-lt, invSbox-lt}
@@ -49,6 +49,11 @@ fit-tail f = record { at = λ p. f .at (suc p) }
 abbrev pub allBelow : ℕ → List ℕ → Bool
 allBelow n [] = true
 allBelow n (x ∷ xs) = both (ltb x n) (allBelow n xs)
+
+-- what holds of both choices
+pub chosen : (P : List ℕ → Type 0) (t : Bool) {v u : List ℕ} → P v → P u → P (choose t v u)
+chosen P true p q = p
+chosen P false p q = q
 
 pub fit-test : (W : ℕ) (l : List ℕ) → T (allBelow (2 ^ W) l) → Fit W l
 fit-test W [] t = fit-nil W

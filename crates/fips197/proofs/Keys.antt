@@ -1,6 +1,5 @@
 -- KeyExpansion: the standard's rule for each word, the round keys' lengths and bytes, and the key read back. Assumes nothing.
 use mathlib.Core.Path.{_≡_, refl, sym, ap, ap₂, _∙_}
-use mathlib.Core.Bool.{Bool, true, false}
 use mathlib.Core.List.{List, [], _∷_, _++_, map}
 use Prim.Native.Nat.{ℕ, zero, suc, _+_, _-_, _*_, _/_, _%_, _^_, _≤_, _<_}
 use native.Mathlib.Omega.{arith}
@@ -10,9 +9,9 @@ use lib.Bits.{bitXor, xor-lt}
 use lib.Dec.{eqb, ltb}
 use lib.ListN.{getD, take, drop, length, length-append, length-drop}
 use lib.Seq.{take-append-le, drop-append-le, take-at, drop-at, take-take, take-add, length-take-le, take-all}
-use Rattle.fips197.specs.Aes.{range, Fit, Block, sbox, both, choose, wordOf, sixteen, rotWord, subWord, addWord, roundConstants, rcon, keyTemp, moreWords, roundsFor, keyWords, keyExpansion}
+use Rattle.fips197.specs.Aes.{range, Fit, Block, sbox, both, wordOf, sixteen, rotWord, subWord, addWord, roundConstants, rcon, keyTemp, moreWords, roundsFor, keyWords, keyExpansion}
 use Rattle.fips197.proofs.Tables.{sbox-lt}
-use Rattle.fips197.proofs.Blocks.{fit-nil, fit-cons, fit-test, fit-append, fit-drop, fit-take}
+use Rattle.fips197.proofs.Blocks.{chosen, fit-nil, fit-cons, fit-test, fit-append, fit-drop, fit-take}
 use Rattle.fips197.proofs.Ciphers.{Blocks, none, more}
 
 -- ---- words of longer lists
@@ -149,12 +148,8 @@ rcon-fits j = fit-cons _ (fit-test 8 roundConstants tt .at (j - 1)) (fit-test 8 
 temp-fits : (nk i : ℕ) (w : List ℕ) → Fit 8 w → Fit 8 (keyTemp nk i w)
 unfolding keyTemp
 temp-fits nk i w f =
-    pick (eqb (i % nk) 0) (add-word-fits (subWord (rotWord w)) (rcon (i / nk)) (sub-word-fits (rotWord w) (rot-word-fits w f)) (rcon-fits (i / nk)))
-    (pick (both (ltb 6 nk) (eqb (i % nk) 4)) (sub-word-fits w f) f)
-  where
-    pick : (t : Bool) {v u : List ℕ} → Fit 8 v → Fit 8 u → Fit 8 (choose t v u)
-    pick true f g = f
-    pick false f g = g
+    chosen (Fit 8) (eqb (i % nk) 0) (add-word-fits (subWord (rotWord w)) (rcon (i / nk)) (sub-word-fits (rotWord w) (rot-word-fits w f)) (rcon-fits (i / nk)))
+    (chosen (Fit 8) (both (ltb 6 nk) (eqb (i % nk) 4)) (sub-word-fits w f) f)
 
 more-fits : (nk n i : ℕ) (ws : List ℕ) → Fit 8 ws → Fit 8 (moreWords nk n i ws)
 unfolding moreWords

@@ -66,17 +66,17 @@ module _ {s : List ℕ} (b : Block s) where
   invSub-invShift = ap (λ (l : List ℕ). invShiftRows (map invSbox l)) (block-is b)
 
 -- ---- what distributes over the sum. The two blocks stand one after the other, sixteen and sixteen
-abbrev front : {A : Type 0} → Bytes A → List A → List A
+abbrev pub front : {A : Type 0} → Bytes A → List A → List A
 front o l = blockOf o (λ r c. getD l (r + 4 * c) (o .null))
 
-abbrev back : {A : Type 0} → Bytes A → List A → List A
+abbrev pub back : {A : Type 0} → Bytes A → List A → List A
 back o l = blockOf o (λ r c. getD l (16 + (r + 4 * c)) (o .null))
 
 module _ {s t : List ℕ} (b : Block s) (d : Block t) where
-  pair : List ℕ
+  unfoldable pub pair : List ℕ
   pair = reads 0 16 s ++ reads 0 16 t
 
-  pair-fits : Fit 8 pair
+  pub pair-fits : Fit 8 pair
   unfolding pair
   pair-fits = fit-append (fit-reads 0 16 (b .bytes)) (fit-reads 0 16 (d .bytes))
 

@@ -18,21 +18,21 @@ use Rattle.lanes.proofs.Check.{law, law-of}
 
 -- ---- what the leaves do to a block, over any bytes
 module _ {A : Type 0} (o : Bytes A) where
-  abbrev rowsShiftedOf : ℕ → List A → List A
+  abbrev pub rowsShiftedOf : ℕ → List A → List A
   rowsShiftedOf zero s = s
   rowsShiftedOf (suc n) s = shiftRowsOf o (rowsShiftedOf n s)
 
-  abbrev rowsUnshiftedOf : ℕ → List A → List A
+  abbrev pub rowsUnshiftedOf : ℕ → List A → List A
   rowsUnshiftedOf zero s = s
   rowsUnshiftedOf (suc n) s = invShiftRowsOf o (rowsUnshiftedOf n s)
 
-  abbrev mixFormOf : ℕ → List A → List A
+  abbrev pub mixFormOf : ℕ → List A → List A
   mixFormOf i s = rowsUnshiftedOf i (mixColumnsOf o (rowsShiftedOf i s))
 
   abbrev invMixFormOf : ℕ → List A → List A
   invMixFormOf i s = rowsUnshiftedOf i (invMixColumnsOf o (rowsShiftedOf i s))
 
-  abbrev add63Of : List A → List A
+  abbrev pub add63Of : List A → List A
   add63Of s = map (λ x. o .xor x (o .byte 0x63)) s
 
   abbrev keyColumnOf : ℕ → List A → List A → ℕ → ℕ → A

@@ -13,6 +13,7 @@ use Rattle.fips197.proofs.Bits.{bit-lt}
 use Rattle.fips197.proofs.Linear.{Related, numbers, valueOf, input, inputs, same, agree, agreeLists}
 use Rattle.fips197.proofs.Blocks.{reads, reads-part, reads-all, block-is, fit-append, fit-reads, fit-map}
 use Rattle.lanes.specs.Layout.{Width, w32, w64, bits, slots, Packs, unpacked, rowWidth, quarterRow, place, lane, slot, laneByte, pack, eachSlot, join}
+use Rattle.lanes.specs.Schedule.{wordsAt, stored}
 use Rattle.lanes.specs.Programs.{words, on8, at, swaps1, swaps2, swaps4, swapsProgram, loadProgram, broadcastProgram, storeProgram}
 use Rattle.lanes.proofs.Check.{narrow, relatedWords, gatherR, slotR, law-of}
 
@@ -220,3 +221,8 @@ lane-lt k ws = from-lt (map (λ p. bit k (getD ws p 0)) (range 0 8)) (λ q. fit-
 pub slot-block : (w : Width) (ws : List ℕ) (b : ℕ) → Block (slot w ws b)
 unfolding slot
 slot-block w ws b = record { long = refl; bytes = fit-map 8 (λ n. lane (place w (n % 4) (n / 4) b) ws) (λ n. lane-lt (place w (n % 4) (n / 4) b) ws) (range 0 16) }
+
+-- so does every round key of a schedule, whatever its words are
+pub stored-block : (w : Width) (l : List ℕ) (b r : ℕ) → Block (stored w l b r)
+unfolding stored
+stored-block w l b r = slot-block w (wordsAt l (8 * r)) b

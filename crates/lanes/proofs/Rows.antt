@@ -1,15 +1,16 @@
--- Row shifts and the 63: blocks stay blocks, and each undoes itself or its inverse. Assumes nothing.
+-- Row shifts, the 63, and the rule by which a round key is read: blocks stay blocks, and each shift or sum is undone. Assumes nothing.
 use mathlib.Core.Path.{_≡_, refl, ap₂, _∙_}
 use mathlib.Core.List.{List, [], _∷_}
-use Prim.Native.Nat.{ℕ, zero, suc, _<_}
+use Prim.Native.Nat.{ℕ, zero, suc, _%_, _<_}
 use native.Mathlib.Omega.{arith}
 use lib.Bits.{bitXor, xor-lt, xor-zero-r}
-use lib.Dec.{lit<}
+use lib.Dec.{lit<, eqb}
 use lib.ListN.{length-map}
 use Rattle.fips197.specs.Aes.{Block, shiftRows, invShiftRows}
 use Rattle.fips197.proofs.Bits.{xor-assoc}
-use Rattle.fips197.proofs.Blocks.{block-is, fit-each, shift-block, invShift-block}
+use Rattle.fips197.proofs.Blocks.{chosen, block-is, fit-each, shift-block, invShift-block}
 use Rattle.lanes.specs.Leaves.{add63, rowsShifted, rowsUnshifted}
+use Rattle.lanes.specs.Schedule.{readKey}
 
 -- ---- blocks stay blocks
 pub add63-block : {s : List ℕ} → Block s → Block (add63 s)
@@ -25,6 +26,11 @@ pub unshifted-block : {s : List ℕ} (n : ℕ) → Block s → Block (rowsUnshif
 unfolding rowsUnshifted
 unshifted-block zero b = b
 unshifted-block (suc n) b = invShift-block (unshifted-block n b)
+
+pub read-block : (n r : ℕ) {k : List ℕ} → Block k → Block (readKey n r k)
+unfolding readKey
+read-block n zero b = b
+read-block n (suc r) b = chosen Block (eqb (suc r) n) (add63-block b) (shifted-block (suc r % 4) (add63-block b))
 
 -- ---- what undoes what
 pub add63-twice : (s : List ℕ) → add63 (add63 s) ≡ s

@@ -12,9 +12,9 @@ use Rattle.fips197.proofs.Keys.{key-first}
 use Rattle.lanes.specs.Layout.{Width, slots, slot}
 use Rattle.lanes.specs.Leaves.{keyColumns}
 use Rattle.lanes.specs.Schedule.{wordsAt, Changes, stored}
+use Rattle.lanes.proofs.Packing.{stored-block}
 use Rattle.schedule.specs.Steps.{keyPass, nextOf, startKey, InTurn, stepConstant, stepRows, Keys, Grows}
 use Rattle.schedule.proofs.RoundKeys.{sixteen-take, next-constant, next-plain}
-use Rattle.schedule.proofs.Reading.{stored-block}
 use Rattle.schedule.proofs.Passes.{stored-before, stored-here}
 
 -- ---- the round keys so far
@@ -91,49 +91,50 @@ rows-few zero e = omega arith
 rows-few (suc p) e = omega arith
 
 -- ---- a turn, once over the key's length
--- it has one of the ten constants, it does not begin before the first m keys end, and the next one begins m keys later
+-- it begins at a multiple of Nk words and not before the first m keys end, the next one begins m keys later, and it has one of the ten constants
 two : (P : ℕ → Type 0) → P 1 → P 2 → (m : ℕ) → 1 ≤ m → m ≤ 2 → P m
 two P p q zero h k = absurd (omega arith)
 two P p q (suc zero) h k = p
 two P p q (suc (suc zero)) h k = q
 two P p q (suc (suc (suc m))) h k = absurd (omega arith)
 
-turn-facts : (m from j : ℕ) → 1 ≤ m → m ≤ 2 → from ≡ (j + 1) * m → (m ≤ from) × (from + m ≡ (j + 1 + 1) * m) × (8 * from < 8 * (4 * m + 7) → j < 10)
+turn-facts : (m from j : ℕ) → 1 ≤ m → m ≤ 2 → from ≡ (j + 1) * m
+    → (4 * from ≡ (j + 1) * (4 * m)) × (m ≤ from) × (from + m ≡ (j + 1 + 1) * m) × (8 * from < 8 * (4 * m + 7) → j < 10)
 turn-facts m from j some few =
-    two (λ (m : ℕ). from ≡ (j + 1) * m → (m ≤ from) × (from + m ≡ (j + 1 + 1) * m) × (8 * from < 8 * (4 * m + 7) → j < 10))
-    (λ e. (omega arith, omega arith, λ h. omega arith)) (λ e. (omega arith, omega arith, λ h. omega arith)) m some few
+    two (λ (m : ℕ). from ≡ (j + 1) * m → (4 * from ≡ (j + 1) * (4 * m)) × (m ≤ from) × (from + m ≡ (j + 1 + 1) * m) × (8 * from < 8 * (4 * m + 7) → j < 10))
+    (λ e. (omega arith, omega arith, omega arith, λ h. omega arith)) (λ e. (omega arith, omega arith, omega arith, λ h. omega arith)) m some few
 
 module _ {m from j n : ℕ} (t : InTurn m from j n) where
   pub turn-constant : j < 10
-  turn-constant = turn-facts m from j (t .some) (t .few) (t .begins) .2 (omega (arith, t .there, t .long))
+  turn-constant = turn-facts m from j (t .some) (t .few) (t .begins) .3 (omega (arith, t .there, t .long))
 
   pub turn-late : m ≤ from
-  turn-late = turn-facts m from j (t .some) (t .few) (t .begins) .0
+  turn-late = turn-facts m from j (t .some) (t .few) (t .begins) .1
 
   pub turn-next : from + m ≡ (j + 1 + 1) * m
-  turn-next = turn-facts m from j (t .some) (t .few) (t .begins) .1
+  turn-next = turn-facts m from j (t .some) (t .few) (t .begins) .2
 
 pub turn-same : {m from j n k : ℕ} → k ≡ n → InTurn m from j n → InTurn m from j k
 turn-same {m} {from} {j} e t = rw e t
 
--- key p of it, with round constant j
+-- key p of it: the first has round constant j, and only AES-256 has a second
 keys-step : (w : Width) (m j from p : ℕ) {c n : ℕ} {l₀ l l′ : List ℕ} → 1 ≤ m → m ≤ 2 → p < m → from ≡ (j + 1) * m → 8 * (from + p) < length l → length l ≡ 8 * (4 * m + 7) → length l′ ≡ length l
     → c ≡ stepConstant j p → n ≡ stepRows p → Keys w (4 * m) (from + p) l₀ l
     → Changes w (nextOf w n (keyPass c) l (8 * (from + p) - 8 + 8) (8 * m)) (8 * (from + p) - 8 + 8) l l′ → Keys w (4 * m) (from + (p + 1)) l₀ l′
 unfolding stepConstant stepRows
-keys-step w zero j from p some few h e fits le long ec en ks d = absurd (omega arith)
-keys-step w (suc zero) j from zero some few h e fits le long ec en ks d =
-    keys-constant w 4 (omega arith) (omega arith) 1 (from - 1) j 8 (8 * (from + 0) - 8) (from + 0) (from + (0 + 1)) refl (omega arith) (omega arith) (omega arith) (omega arith) refl (omega arith) (omega arith)
-    (omega arith) long ec ks (rw en at d)
+keys-step w m j from zero some few h e fits le long ec en ks d =
+    let t = turn-facts m from j some few e in
+    let low : m ≤ from = t .1 in
+    let f : from - 1 + 1 ≡ from = omega arith in
+    keys-constant w (4 * m) (omega arith) (omega arith) m (from - 1) j (8 * m) (8 * (from + 0) - 8) (from + 0) (from + (0 + 1)) refl (ap (λ (q : ℕ). 4 * q) f ∙ t .0) (omega arith) (omega arith)
+    (omega arith) refl (omega arith) (omega arith) (omega arith) long ec ks (rw en at d)
+keys-step w zero j from (suc p) some few h e fits le long ec en ks d = absurd (omega arith)
 keys-step w (suc zero) j from (suc p) some few h e fits le long ec en ks d = absurd (omega arith)
-keys-step w (suc (suc zero)) j from zero some few h e fits le long ec en ks d =
-    keys-constant w 8 (omega arith) (omega arith) 2 (from - 1) j 16 (8 * (from + 0) - 8) (from + 0) (from + (0 + 1)) refl (omega arith) (omega arith) (omega arith) (omega arith) refl (omega arith) (omega arith)
-    (omega arith) long ec ks (rw en at d)
 keys-step w (suc (suc zero)) j from (suc zero) some few h e fits le long ec en ks d =
     keys-more w 8 (omega arith) (omega arith) 0 2 from 16 (8 * (from + 1) - 8) (from + 1) (from + (1 + 1)) (keyPass 0) (omega arith) refl refl (omega arith) (omega arith) (omega arith) (omega arith) long
     (λ key f. next-plain 8 key (omega arith) f 2 refl from (omega arith) (omega arith) refl (j + 1) (omega arith)) ks (rw (en, ec) at d)
 keys-step w (suc (suc zero)) j from (suc (suc p)) some few h e fits le long ec en ks d = absurd (omega arith)
-keys-step w (suc (suc (suc m))) j from p some few h e fits le long ec en ks d = absurd (omega arith)
+keys-step w (suc (suc (suc m))) j from (suc p) some few h e fits le long ec en ks d = absurd (omega arith)
 
 -- the schedule ends before key p: there are no more
 pub keys-end : {w : Width} {nk : ℕ} (p q : ℕ) {l₀ l : List ℕ} → length l ≤ 8 * p → Keys w nk p l₀ l → Keys w nk q l₀ l

@@ -9,37 +9,27 @@ use native.Mathlib.Omega.{arith}
 use lib.Dec.{eqb}
 use lib.ListN.{getD, drop, length}
 use Rattle.fips197.specs.Aes.{range, Fit, Block, choose, sixteen, roundsFor, keyWords, keyExpansion}
-use Rattle.fips197.proofs.Blocks.{fit-take, fit-drop}
-use Rattle.fips197.proofs.Ciphers.{Blocks, none, more}
+use Rattle.fips197.proofs.Blocks.{chosen, fit-take, fit-drop}
 use Rattle.fips197.proofs.Keys.{key-at, key-block, expansion-one}
 use Rattle.lanes.specs.Layout.{Width, w32, w64, bits, slots, slot, pack, eachSlot}
 use Rattle.lanes.specs.Leaves.{add63, rowsShifted, rowsUnshifted}
 use Rattle.lanes.specs.Schedule.{wordsAt, stored, readKey, reading, writeKey, scheduleOf}
-use Rattle.lanes.proofs.Packing.{slot-pack, slots-one, pack-length, pack-fits, slot-block}
+use Rattle.lanes.proofs.Packing.{slot-pack, slots-one, pack-length, pack-fits, stored-block}
 use Rattle.lanes.proofs.Parts.{words-length}
-use Rattle.lanes.proofs.Rows.{add63-block, shifted-block, unshifted-block, add63-twice, shifted-unshifted, unshifted-shifted}
+use Rattle.lanes.proofs.Rows.{add63-block, unshifted-block, add63-twice, shifted-unshifted, unshifted-shifted}
 use Rattle.schedule.proofs.Eights.{parts-length, parts-fit, parts-at, eights-one}
 
 -- ---- one round key
 -- both ways of the rule, by the test whether it is the last key
-pick : (t : Bool) (P : List ℕ → Type 0) {v u : List ℕ} → P v → P u → P (choose t v u)
-pick true P p q = p
-pick false P p q = q
-
 choose-choose : (t : Bool) (f g h k : List ℕ → List ℕ) (s : List ℕ) → f (h s) ≡ s → g (k s) ≡ s → choose t (f (choose t (h s) (k s))) (g (choose t (h s) (k s))) ≡ s
 choose-choose true f g h k s p q = p
 choose-choose false f g h k s p q = q
 
 module _ (n : ℕ) where
-  pub read-block : (r : ℕ) {k : List ℕ} → Block k → Block (readKey n r k)
-  unfolding readKey
-  read-block zero b = b
-  read-block (suc r) b = pick (eqb (suc r) n) Block (add63-block b) (shifted-block (suc r % 4) (add63-block b))
-
   pub write-block : (r : ℕ) {k : List ℕ} → Block k → Block (writeKey n r k)
   unfolding writeKey
   write-block zero b = b
-  write-block (suc r) b = pick (eqb (suc r) n) Block (add63-block b) (add63-block (unshifted-block (suc r % 4) b))
+  write-block (suc r) b = chosen Block (eqb (suc r) n) (add63-block b) (add63-block (unshifted-block (suc r % 4) b))
 
   pub read-write : (r : ℕ) {k : List ℕ} → Block k → readKey n r (writeKey n r k) ≡ k
   unfolding readKey writeKey
@@ -70,19 +60,6 @@ map-at f d (suc n) i (suc r) h = let e : suc i + r ≡ i + suc r = omega arith i
 pub reading-at : (w : Width) (n : ℕ) (l : List ℕ) (b r : ℕ) → r < n + 1 → getD (reading w n l b) r [] ≡ readKey n r (stored w l b r)
 unfolding reading
 reading-at w n l b r h = map-at (λ r. readKey n r (stored w l b r)) [] (n + 1) 0 r h ∙ ap (λ (r : ℕ). readKey n r (stored w l b r)) (zero-add r)
-
-pub stored-block : (w : Width) (l : List ℕ) (b r : ℕ) → Block (stored w l b r)
-unfolding stored
-stored-block w l b r = slot-block w (wordsAt l (8 * r)) b
-
--- any words read as blocks
-pub reading-blocks : (w : Width) (n : ℕ) (l : List ℕ) (b : ℕ) → Blocks (reading w n l b)
-unfolding reading
-reading-blocks w n l b = go (n + 1) 0
-  where
-    go : (k i : ℕ) → Blocks (map (λ r. readKey n r (stored w l b r)) (range i k))
-    go zero i = none
-    go (suc k) i = more (read-block n i (stored-block w l b i)) (go k (suc i))
 
 -- ---- the reading loses nothing
 words-fit : {W : ℕ} (l : List ℕ) (at : ℕ) → Fit W l → Fit W (wordsAt l at)

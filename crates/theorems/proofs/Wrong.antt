@@ -16,6 +16,7 @@ use Rattle.lanes.specs.Schedule.{wordsAt, stored, readKey, reading, encryptedBa
 use Rattle.cipher.specs.Batch.{Batch}
 use Rattle.cipher.proofs.Batches.{batch-block, sixteen-join, encrypted-slot, decrypted-slot, encrypted-one, encrypted-decrypted}
 use Rattle.aes.specs.Outcome.{Outcome, answers, roundsOf, cryptOutcome, encryptOutcome, decryptOutcome}
+use Rattle.aes.proofs.Answers.{same-number, same-buffer, zero-block}
 
 -- ---- the shape: a program is its answer for every schedule, input and output buffer
 abbrev pub Program : Type 0
@@ -30,12 +31,6 @@ pub record Answered (w : Width) (s i o : List ℕ) : Type 0 where
 -- it agrees with the promise wherever a call is to be answered; so a wrong program may refuse rightly and is wrong all the same
 abbrev pub Meets : Width → Program → Program → Type 0
 Meets w P Q = (s i o : List ℕ) → Answered w s i o → P s i o ≡ Q s i o
-
-same-number : {r r′ : ℕ} {x x′ : List ℕ} → answers r x ≡ answers r′ x′ → r ≡ r′
-same-number e = cc
-
-same-bytes : {r r′ : ℕ} {x x′ : List ℕ} → answers r x ≡ answers r′ x′ → x ≡ x′
-same-bytes e = cc
 
 -- ---- inputs that must be answered: a schedule of 88 zero words, and batches that hold x in their first byte and zeros
 pub words : List ℕ
@@ -72,13 +67,13 @@ module _ (w : Width) (f : ℕ → List ℕ → List ℕ → List ℕ) where
 
   -- one that writes nothing and answers 0
   pub writes-nothing : Meets w (λ s i o. answers 0 o) (cryptOutcome f (16 * slots w)) → ⊥
-  writes-nothing m = zero≢one w (same-bytes (m words (batch w 0) (batch w 0) (good w 0 0) ∙ taken w f 0 0 ∙ sym (m words (batch w 0) (batch w 1) (good w 0 1) ∙ taken w f 0 1)))
+  writes-nothing m = zero≢one w (same-buffer (m words (batch w 0) (batch w 0) (good w 0 0) ∙ taken w f 0 0 ∙ sym (m words (batch w 0) (batch w 1) (good w 0 1) ∙ taken w f 0 1)))
 
   -- one that writes the same bytes each time, where f is one-to-one
   pub writes-the-same : ((i j : List ℕ) → Batch w i → Batch w j → f 10 words i ≡ f 10 words j → i ≡ j) → (same : List ℕ)
       → Meets w (λ s i o. answers 0 same) (cryptOutcome f (16 * slots w)) → ⊥
   writes-the-same one same m = zero≢one w (one (batch w 0) (batch w 1) (is-batch w 0 (lit< tt)) (is-batch w 1 (lit< tt))
-      (same-bytes (sym (taken w f 0 0) ∙ sym (m words (batch w 0) (batch w 0) (good w 0 0)) ∙ m words (batch w 1) (batch w 0) (good w 1 0) ∙ taken w f 1 0)))
+      (same-buffer (sym (taken w f 0 0) ∙ sym (m words (batch w 0) (batch w 0) (good w 0 0)) ∙ m words (batch w 1) (batch w 0) (good w 1 0) ∙ taken w f 1 0)))
 
 -- ---- the round keys that 88 zero words hold, in every slot and at each width
 zeroKeys : List (List ℕ)
@@ -133,7 +128,7 @@ module _ (w : Width) (f : ℕ → List ℕ → List ℕ → List ℕ) (c : List 
   -- what a program writes for the test batch begins with that byte
   begins : {x : List ℕ} → answers 0 x ≡ cryptOutcome f (16 * slots w) words (batch w 1) (batch w 0) → getD (sixteen x 0) 0 0 ≡ value
   begins {x} e =
-      ap (λ (l : List ℕ). getD (sixteen l 0) 0 0) (same-bytes (e ∙ taken w f 1 0))
+      ap (λ (l : List ℕ). getD (sixteen l 0) 0 0) (same-buffer (e ∙ taken w f 1 0))
       ∙ ap (λ (l : List ℕ). getD l 0 0) (each 0 (first-slot w) ∙ ap₂ c (zero-reading w 0 (first-slot w)) (one-is w))
       ∙ valued
 
@@ -160,7 +155,7 @@ module _ (w : Width) (f : ℕ → List ℕ → List ℕ → List ℕ) (c : List 
   fills-from-slot-0 long h m =
       let e : c (reading w 10 words 0) (sixteen (batch w 1) 0) ≡ c zeroKeys one = ap₂ c (zero-reading w 0 (first-slot w)) (one-is w) in
       h (sym (sixteen-join w (λ b. c (reading w 10 words 0) (sixteen (batch w 1) 0)) (λ b y. ap length e ∙ long) 1 (some-slot w) ∙ e)
-      ∙ ap (λ (l : List ℕ). sixteen l 1) (same-bytes (m words (batch w 1) (batch w 0) (good w 1 0) ∙ taken w f 1 0))
+      ∙ ap (λ (l : List ℕ). sixteen l 1) (same-buffer (m words (batch w 1) (batch w 0) (good w 1 0) ∙ taken w f 1 0))
       ∙ each 1 (some-slot w)
       ∙ ap₂ c (zero-reading w 1 (some-slot w)) (rest-is w))
 
@@ -168,9 +163,6 @@ module _ (w : Width) (f : ℕ → List ℕ → List ℕ → List ℕ) (c : List 
 one-block : Block one
 unfolding one
 one-block = record { long = refl; bytes = fit-test 8 (1 ∷ replicate 15 0) tt }
-
-zero-block : Block (replicate 16 0)
-zero-block = record { long = refl; bytes = fit-test 8 (replicate 16 0) tt }
 
 zero-keys : Blocks zeroKeys
 unfolding zeroKeys

@@ -14,6 +14,7 @@ use Rattle.lanes.specs.Layout.{Width}
 use Rattle.lanes.specs.Schedule.{scheduleOf}
 use Rattle.schedule.proofs.Reading.{schedule-one}
 use Rattle.aes.specs.Outcome.{Outcome, answers, keyWordsOf, expandOutcome}
+use Rattle.aes.proofs.Answers.{same-number, same-buffer}
 
 -- a program is its answer for every key and buffer; a call that is to be answered; agreement with the promise there
 abbrev pub Program : Type 0
@@ -25,12 +26,6 @@ pub record Answered (key s : List ℕ) : Type 0 where
 
 abbrev pub Meets : Width → Program → Type 0
 Meets w P = (key s : List ℕ) → Answered key s → P key s ≡ expandOutcome w key s
-
-same-number : {r r′ : ℕ} {x x′ : List ℕ} → answers r x ≡ answers r′ x′ → r ≡ r′
-same-number e = cc
-
-same-words : {r r′ : ℕ} {x x′ : List ℕ} → answers r x ≡ answers r′ x′ → x ≡ x′
-same-words e = cc
 
 -- calls that are to be answered: 16-byte keys that begin with x, buffers of 88 words y
 key : ℕ → List ℕ
@@ -75,12 +70,12 @@ module _ (w : Width) where
   -- one that writes the same words each time
   pub expand-writes-the-same : (same : List ℕ) → Meets w (λ k s. answers 0 same) → ⊥
   expand-writes-the-same same m = keys-differ (schedule-one w 4 (key 0) (key 1) (lit≤ tt) (lit≤ tt) (key-length 0) (key-bytes 0 (lit< tt)) (key-length 1) (key-bytes 1 (lit< tt))
-      (same-words (sym (taken w 0 0) ∙ sym (m (key 0) (buffer 0) (good 0 0)) ∙ m (key 1) (buffer 0) (good 1 0) ∙ taken w 1 0)))
+      (same-buffer (sym (taken w 0 0) ∙ sym (m (key 0) (buffer 0) (good 0 0)) ∙ m (key 1) (buffer 0) (good 1 0) ∙ taken w 1 0)))
 
   -- one that writes some first words, whatever they are, and leaves the rest as it was: nothing (n = 0), the key copied, the first round keys only
   pub expand-leaves-the-rest : (n : ℕ) → n < 88 → (g : List ℕ → List ℕ) → ((k : List ℕ) → length (g k) ≡ n) → Meets w (λ k s. answers 0 (g k ++ drop n s)) → ⊥
   expand-leaves-the-rest n h g e m = buffers-differ n h (g (key 0)) (e (key 0))
-      (same-words (m (key 0) (buffer 0) (good 0 0) ∙ taken w 0 0 ∙ sym (m (key 0) (buffer 1) (good 0 1) ∙ taken w 0 1)))
+      (same-buffer (m (key 0) (buffer 0) (good 0 0) ∙ taken w 0 0 ∙ sym (m (key 0) (buffer 1) (good 0 1) ∙ taken w 0 1)))
 
   -- one that writes nothing and answers 0
   pub expand-writes-nothing : Meets w (λ k s. answers 0 s) → ⊥

@@ -8,12 +8,7 @@ use lib.ListN.{getD, replicate}
 use Rattle.lanes.specs.Layout.{Width, w64}
 use Rattle.lanes.specs.Schedule.{scheduleOf, encryptedBatch}
 use Rattle.aes.specs.Outcome.{answers, keyWordsOf, roundsOf, checkValue, checkOutcome, doorOutcome}
-
-same-number : {r r′ : ℕ} {x x′ : List ℕ} → answers r x ≡ answers r′ x′ → r ≡ r′
-same-number e = cc
-
-same-bytes : {r r′ : ℕ} {x x′ : List ℕ} → answers r x ≡ answers r′ x′ → x ≡ x′
-same-bytes e = cc
+use Rattle.aes.proofs.Answers.{same-number, same-buffer}
 
 -- ---- the key check value: a program is its answer for every schedule and buffer
 check-taken : (w : Width) (y : ℕ) → checkOutcome w (replicate 88 0) (replicate 3 y) ≡ answers 0 (checkValue w 10 (replicate 88 0))
@@ -27,7 +22,7 @@ module _ (w : Width) where
   -- a program that leaves the buffer as it was where it must answer 0
   pub check-writes-nothing : ((y : ℕ) → answers 0 (replicate 3 y) ≡ checkOutcome w (replicate 88 0) (replicate 3 y)) → ⊥
   check-writes-nothing m =
-      let e : _≡_ {A = List ℕ} (replicate 3 0) (replicate 3 1) = same-bytes (m 0 ∙ check-taken w 0 ∙ sym (m 1 ∙ check-taken w 1)) in
+      let e : _≡_ {A = List ℕ} (replicate 3 0) (replicate 3 1) = same-buffer (m 0 ∙ check-taken w 0 ∙ sym (m 1 ∙ check-taken w 1)) in
       let z : _≡_ {A = ℕ} 0 1 = ap (λ (l : List ℕ). getD l 0 0) e in
       omega arith
 
@@ -42,7 +37,7 @@ door-refuses-everything number h m = h 0 (replicate 16 0) (replicate 64 0) (repl
 
 pub door-writes-nothing : ((y : ℕ) → answers 0 (replicate 64 y) ≡ doorOutcome 0 (replicate 16 0) (replicate 64 0) (replicate 64 y)) → ⊥
 door-writes-nothing m =
-    let e : _≡_ {A = List ℕ} (replicate 64 0) (replicate 64 1) = same-bytes (m 0 ∙ door-taken 0 ∙ sym (m 1 ∙ door-taken 1)) in
+    let e : _≡_ {A = List ℕ} (replicate 64 0) (replicate 64 1) = same-buffer (m 0 ∙ door-taken 0 ∙ sym (m 1 ∙ door-taken 1)) in
     let z : _≡_ {A = ℕ} 0 1 = ap (λ (l : List ℕ). getD l 0 0) e in
     omega arith
 
