@@ -1,4 +1,5 @@
-//! Ours, the Rust and (under `--cfg bearssl`) BearSSL in one process on the same inputs: bench RUNS.
+//! Ours, the Rust and (under `--cfg bearssl` and `openssl`) BearSSL and OpenSSL in one process on the same inputs:
+//! bench RUNS. It prints docs/SPEED.md's table.
 //!
 //! 64-bit words, 4,096 blocks a run, the key expanded before; the contestants take turns, and the best of all runs
 //! counts. A run of expansion expands 1,024 keys. Before any clock starts, all must give the same bytes.
@@ -14,10 +15,15 @@ unsafe extern "C" {
     fn locker_aes_expand64(k: *const u8, kn: usize, s: *mut u64, sn: usize) -> u32;
     fn locker_aes_encrypt64(s: *const u64, sn: usize, i: *const u8, n: usize, o: *mut u8, on: usize) -> u32;
     fn locker_aes_decrypt64(s: *const u64, sn: usize, i: *const u8, n: usize, o: *mut u8, on: usize) -> u32;
+    fn locker_aes(d: u32, k: *const u8, kn: usize, i: *const u8, n: usize, o: *mut u8, on: usize) -> u32;
     #[cfg(bearssl)]
     fn bear_expand(k: *const u8, kn: usize, s: *mut u64);
     #[cfg(bearssl)]
     fn bear_crypt(direction: u32, s: *const u64, sn: usize, i: *const u8, o: *mut u8);
+    #[cfg(openssl)]
+    fn openssl_expand(instructions: i32, k: *const u8, kn: usize);
+    #[cfg(openssl)]
+    fn openssl_crypt(instructions: i32, direction: u32, i: *const u8, n: usize, o: *mut u8);
 }
 
 /// A contestant: a key to a schedule, and all of the input to the output in a direction under a schedule of its own.
@@ -65,15 +71,33 @@ const CONTESTANTS: &[Contestant] = &[
             }
         },
     },
+    // These keep their schedules to themselves.
+    #[cfg(openssl)]
+    Contestant {
+        name: "OpenSSL, no AES instructions",
+        expand: |key, _| unsafe { openssl_expand(0, key.as_ptr(), key.len()) },
+        crypt: |direction, _, input, output| unsafe {
+            openssl_crypt(0, direction, input.as_ptr(), input.len(), output.as_mut_ptr())
+        },
+    },
+    #[cfg(openssl)]
+    Contestant {
+        name: WITH_INSTRUCTIONS,
+        expand: |key, _| unsafe { openssl_expand(1, key.as_ptr(), key.len()) },
+        crypt: |direction, _, input, output| unsafe {
+            openssl_crypt(1, direction, input.as_ptr(), input.len(), output.as_mut_ptr())
+        },
+    },
 ];
+const WITH_INSTRUCTIONS: &str = "OpenSSL, AES instructions";
 
 /// The best time of one run of each, in ns, taken in turns.
-fn best(runs: u32, mut run: impl FnMut(&Contestant)) -> Vec<f64> {
-    let mut best = vec![f64::MAX; CONTESTANTS.len()];
+fn best<C>(runs: u32, contestants: &[C], mut run: impl FnMut(usize, &C)) -> Vec<f64> {
+    let mut best = vec![f64::MAX; contestants.len()];
     for _ in 0..runs {
-        for (c, best) in CONTESTANTS.iter().zip(&mut best) {
+        for (n, (c, best)) in contestants.iter().zip(&mut best).enumerate() {
             let start = Instant::now();
-            run(c);
+            run(n, c);
             *best = best.min(start.elapsed().as_nanos() as f64);
         }
     }
@@ -81,9 +105,9 @@ fn best(runs: u32, mut run: impl FnMut(&Contestant)) -> Vec<f64> {
 }
 
 fn row(name: &str, unit: &str, count: usize, best: Vec<f64>) {
-    print!("{name:<20} {unit:<8}");
-    best.iter().for_each(|ns| print!(" {:>10.2}", ns / count as f64));
-    println!(" {:>10.3}", best[1] / best[0]);
+    print!("| {name} | {unit} |");
+    best.iter().for_each(|ns| print!(" {:.2} |", ns / count as f64));
+    println!(" {:.3} |", best[1] / best[0]);
 }
 
 fn main() {
@@ -93,31 +117,51 @@ fn main() {
     random.fill(&mut input);
     random.fill(&mut keys);
 
-    print!("{:<20} {:<8}", "best of runs, ns", "for a");
-    CONTESTANTS.iter().for_each(|c| print!(" {:>10}", c.name));
-    println!(" {:>10}", "ours/Rust");
+    let has_instructions = is_x86_feature_detected!("aes");
+    let contestants: Vec<_> = CONTESTANTS.iter().filter(|c| has_instructions || c.name != WITH_INSTRUCTIONS).collect();
+    print!("| | for a |");
+    contestants.iter().for_each(|c| print!(" {} |", c.name));
+    println!(" ours/Rust |\n|---|---|{}---|", "---|".repeat(contestants.len()));
+    let mut doors = vec![];
     for key_len in [16, 32] {
         let key = &keys[..key_len];
-        let mut schedules = vec![vec![0u64; words(key_len)]; CONTESTANTS.len()];
-        CONTESTANTS.iter().zip(&mut schedules).for_each(|(c, s)| (c.expand)(key, s));
+        let mut schedules = vec![vec![0u64; words(key_len)]; contestants.len()];
+        contestants.iter().zip(&mut schedules).for_each(|(c, s)| (c.expand)(key, s));
         assert!(schedules[0] == schedules[1], "the schedules differ");
-        let own = |c: &Contestant| &schedules[CONTESTANTS.iter().position(|d| d.name == c.name).unwrap()][..];
 
         for (direction, what) in [(0, "encrypt"), (1, "decrypt")] {
-            let answers = CONTESTANTS.iter().map(|c| {
-                (c.crypt)(direction, own(c), &input, &mut output);
+            let answers = contestants.iter().zip(&schedules).map(|(c, s)| {
+                (c.crypt)(direction, s, &input, &mut output);
                 output.clone()
             });
             let answers: Vec<_> = answers.collect();
             assert!(answers.iter().all(|a| *a == answers[0]), "the answers differ");
-            let best = best(runs, |c| (c.crypt)(direction, own(c), black_box(&input), black_box(&mut output)));
+            let best = best(runs, &contestants, |n, c| {
+                (c.crypt)(direction, &schedules[n], black_box(&input), black_box(&mut output))
+            });
             row(&format!("AES-{} {what}", 8 * key_len), "block", BYTES / 16, best);
         }
         let mut schedule = vec![0u64; words(key_len)];
-        let best = best(runs, |c| {
+        let best_key = best(runs, &contestants, |_, c| {
             keys.chunks_exact(32).for_each(|k| (c.expand)(black_box(&k[..key_len]), black_box(&mut schedule)));
         });
-        row(&format!("AES-{} expand", 8 * key_len), "key", KEYS, best);
+        row(&format!("AES-{} expand", 8 * key_len), "key", KEYS, best_key);
+
+        // The door, which expands at each call of one batch, beside the same with a schedule made once.
+        let ours = &contestants[1];
+        let door = best(runs, &[false, true], |_, door| match door {
+            false => (ours.crypt)(1, &schedules[1], black_box(&input), black_box(&mut output)),
+            true => batches(black_box(&input), black_box(&mut output)).for_each(|(i, o)| {
+                let answer = unsafe { locker_aes(1, key.as_ptr(), key_len, i.as_ptr(), BATCH, o.as_mut_ptr(), BATCH) };
+                assert_eq!(answer, 0);
+            }),
+        });
+        let [once, each] = [door[0], door[1]].map(|ns| ns / (BYTES / 16) as f64);
+        doors.push(format!(
+            "AES-{}: decrypting by the door {each:.2} ns a block, with a schedule made once {once:.2}",
+            8 * key_len
+        ));
     }
-    println!("ok bench: {runs} interleaved runs of each, the same bytes from all {}", CONTESTANTS.len());
+    doors.iter().for_each(|line| println!("{line}"));
+    println!("ok bench: {runs} interleaved runs of each, the same bytes from all {}", contestants.len());
 }

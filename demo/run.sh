@@ -1,9 +1,9 @@
 #!/bin/sh
-# The main job, as a user would do it: build the static library, link a small C program over the header, run it.
-set -eu
+# The main job, as a user would do it: prove and build the library, link a small C program over the header, run it.
 top=$(cd "$(dirname "$0")/.." && pwd)
 . "$top/tools/common.sh"
-[ -f "$lib" ] || rt staticlib host
-need_library
-gcc -std=c99 -Wall -Wextra -O2 -o "$out/purge" demo/purge.c "$lib"
+. "$top/tools/fresh.sh"
+# shellcheck disable=SC2086 # the flags are words
+$CC -std=c99 -Wall -Wextra -Wpedantic ${CFLAGS:--O2} -o "$out/purge" demo/purge.c "$lib"
 "$out/purge"
+echo "ok demo: four headers sealed and opened, and one call refused"

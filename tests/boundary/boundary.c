@@ -2,188 +2,145 @@
  * Every exported function at every length, against guard pages.
  *
  * Each buffer has a page of its own between two pages that nobody may touch, and lies against either of them, so that
- * one byte too far is a fault, in the library too, which no sanitizer was compiled into. After each call the whole page
- * is compared with what it held. The number is judged by expected() below, a statement of paper 01's table of its own.
+ * one byte too far is a fault, in the library too, which no sanitizer was compiled into. The pages can only be read,
+ * but for the output's where the call is to be answered: so a refusal that writes is a fault as well, even if it puts
+ * back what was there. The number and what an answered call wrote are judged by calls.h.
  */
 #define _GNU_SOURCE
+#include <signal.h>
 #include <stdio.h>
 #include <stdlib.h>
-#include <string.h>
 #include <sys/mman.h>
 
-#include "locker_aes.h"
+#include "calls.h"
 
 #define PAGE 4096u
 #define HUGE ((size_t)1 << 32) /* a length that a 32-bit number would lose */
 
-/* The functions: what each takes (k key, s schedule, i input, o output; the last is written) and its width in bytes. */
-static const struct call {
-    const char *name, *takes;
-    size_t word;
-} calls[] = {
-    {"locker_aes", "kio", 8},
-    {"locker_aes_expand32", "ks", 4},
-    {"locker_aes_expand64", "ks", 8},
-    {"locker_aes_encrypt32", "sio", 4},
-    {"locker_aes_encrypt64", "sio", 8},
-    {"locker_aes_decrypt32", "sio", 4},
-    {"locker_aes_decrypt64", "sio", 8},
-    {"locker_aes_check32", "so", 4},
-    {"locker_aes_check64", "so", 8},
-};
-enum { DOOR = 0, CALLS = sizeof calls / sizeof calls[0] };
-
-static uint32_t run(size_t call, uint32_t direction, void *const at[3], const size_t n[3])
-{
-    switch (call) {
-    case 0: return locker_aes(direction, at[0], n[0], at[1], n[1], at[2], n[2]);
-    case 1: return locker_aes_expand32(at[0], n[0], at[1], n[1]);
-    case 2: return locker_aes_expand64(at[0], n[0], at[1], n[1]);
-    case 3: return locker_aes_encrypt32(at[0], n[0], at[1], n[1], at[2], n[2]);
-    case 4: return locker_aes_encrypt64(at[0], n[0], at[1], n[1], at[2], n[2]);
-    case 5: return locker_aes_decrypt32(at[0], n[0], at[1], n[1], at[2], n[2]);
-    case 6: return locker_aes_decrypt64(at[0], n[0], at[1], n[1], at[2], n[2]);
-    case 7: return locker_aes_check32(at[0], n[0], at[1], n[1]);
-    default: return locker_aes_check64(at[0], n[0], at[1], n[1]);
-    }
-}
-
-/* Paper 01, "Sizes and answers". */
-static uint32_t expected(const struct call *c, uint32_t direction, const size_t n[3])
-{
-    const char *k = strchr(c->takes, 'k'), *s = strchr(c->takes, 's');
-    const char *i = strchr(c->takes, 'i'), *o = strchr(c->takes, 'o');
-    size_t batch = c->word == 4 ? 32 : 64;
-
-    if (k && n[k - c->takes] != 16 && n[k - c->takes] != 32) return 1;
-    if (s && k && n[s - c->takes] != (n[k - c->takes] == 16 ? 88u : 120u)) return 2;
-    if (s && !k && n[s - c->takes] != 88 && n[s - c->takes] != 120) return 2;
-    if (i && n[i - c->takes] != batch) return 3;
-    if (o && n[o - c->takes] != (strlen(c->takes) == 2 ? 3 : batch)) return 4;
-    if (c == &calls[DOOR] && direction != 0 && direction != 1) return 5;
-    return 0;
-}
-
-static unsigned char *page[3];          /* each buffer's page */
-static unsigned char held[3][PAGE];     /* what it holds between calls */
-static unsigned char *wide;             /* room for HUGE elements and some, all zero, never all touched */
+static unsigned char *page[3];      /* each buffer's page */
+static unsigned char held[3][PAGE]; /* what it holds between calls */
+static unsigned char *wide;         /* room for HUGE elements and some, all zero, never all touched */
 static unsigned long tried, answered[6];
+static struct {
+    const struct call *c;
+    uint32_t direction;
+    const size_t *n;
+    long answer; /* or -1, before there is one */
+} now; /* the call under way, for the report of a fault */
 
 /* A buffer lies at its page's beginning, one element after it, at the page's end, nowhere (null), or in `wide`. */
 enum place { BEGIN, ODD, END, NOWHERE, WIDE };
 
-static size_t size_of(const struct call *c, int b)
+static void wrong(const char *what)
 {
-    return c->takes[b] == 's' ? c->word : 1;
+    printf("FAILED: %s, direction %lu, lengths %zu %zu %zu: %s (answer %ld, expected %lu)\n", now.c->name,
+           (unsigned long)now.direction, now.n[0], now.n[1], last_of(now.c) == 2 ? now.n[2] : 0, what, now.answer,
+           (unsigned long)number(now.c, now.direction, now.n));
+    fflush(stdout);
+    _Exit(1);
 }
 
-static void wrong(const struct call *c, uint32_t direction, const size_t n[3], const char *what, uint32_t got)
+static void fault(int signal, siginfo_t *info, void *context)
 {
-    printf("FAILED: %s, direction %lu, lengths %zu %zu %zu: %s (answer %lu, expected %lu)\n", c->name,
-           (unsigned long)direction, n[0], n[1], strlen(c->takes) == 3 ? n[2] : 0, what, (unsigned long)got,
-           (unsigned long)expected(c, direction, n));
-    exit(1);
+    const unsigned char *at = info->si_addr;
+    int b;
+
+    (void)signal, (void)context;
+    for (b = 0; b <= last_of(now.c); b++)
+        if (at >= page[b] && at < page[b] + PAGE)
+            wrong(b < last_of(now.c) ? "an input written" : "a refusal that writes");
+    wrong("touched memory that it was not lent");
 }
 
-/* One call, and where it is not refused a second one over other contents of the output: both must write the same. */
-static void try(size_t call, uint32_t direction, const size_t n[3], const enum place place[3])
+/* Page b alone can be written, or with -1 none. */
+static void allow(int b)
 {
-    static const unsigned char zeros[PAGE];
-    static unsigned char written[2][PAGE];
-    const struct call *c = &calls[call];
-    int last = (int)strlen(c->takes) - 1, b, again;
-    size_t size[3] = {0}, i;
-    unsigned char *lies[3] = {0}, *before = NULL;
+    static int allowed = -1;
+
+    if (b == allowed) return;
+    if ((allowed >= 0 && mprotect(page[allowed], PAGE, PROT_READ)) ||
+        (b >= 0 && mprotect(page[b], PAGE, PROT_READ | PROT_WRITE))) perror("mprotect"), exit(2);
+    allowed = b;
+}
+
+/* One call, and where it is answered a second one over other contents of the output: both must write what is right. */
+static void try(const struct call *c, uint32_t direction, const size_t n[3], const enum place place[3])
+{
+    unsigned char right[MOST_WRITTEN], *lies[3] = {0}, *before;
+    int last = last_of(c), b, again;
+    uint32_t expected = number(c, direction, n);
+    size_t size = n[last] * element(c, last), i;
     void *at[3] = {0};
 
     for (b = 0; b <= last; b++) {
-        size[b] = n[b] * size_of(c, b);
         lies[b] = place[b] == WIDE ? wide : page[b];
-        if (place[b] == END) lies[b] += PAGE - size[b];
-        if (place[b] == ODD) lies[b] += size_of(c, b);
+        if (place[b] == END) lies[b] += PAGE - n[b] * element(c, b);
+        if (place[b] == ODD) lies[b] += element(c, b);
         at[b] = place[b] == NOWHERE ? NULL : lies[b];
     }
+    now.c = c, now.direction = direction, now.n = n;
+    allow(expected == 0 ? last : -1);
+    if (expected == 0) content(c, direction, at, n, right);
     for (again = 0; again < 2; again++) {
-        uint32_t answer = run(call, direction, at, n);
+        now.answer = -1;
+        now.answer = run(c, direction, at, n);
         tried++;
-        if (answer != expected(c, direction, n)) wrong(c, direction, n, "wrong number", answer);
-        answered[answer]++;
-        if (answer == 0) { /* keep what was written, and put back what was there, so that whole pages can be compared */
-            before = held[last] + (lies[last] - page[last]);
-            memcpy(written[again], lies[last], size[last]);
-            memcpy(lies[last], before, size[last]);
-        }
-        for (b = 0; b <= last; b++)
-            if (place[b] == WIDE ? memcmp(wide, zeros, PAGE) || memcmp(wide + size[b] - PAGE, zeros, PAGE)
-                                 : memcmp(page[b], held[b], PAGE))
-                wrong(c, direction, n, answer ? "a refusal changed a buffer" : b < last ? "an input changed" :
-                      "written outside the output", answer);
-        if (answer != 0) return;
-        for (i = 0; i < size[last] && !again; i++) lies[last][i] = (unsigned char)~before[i];
+        if (now.answer != (long)expected) wrong("wrong number");
+        answered[expected]++;
+        if (expected != 0) return;
+        if (memcmp(lies[last], right, size)) wrong("wrong content");
+        before = held[last] + (lies[last] - page[last]);
+        memcpy(lies[last], before, size);
+        if (memcmp(page[last], held[last], PAGE)) wrong("written outside the output");
+        for (i = 0; i < size && !again; i++) lies[last][i] = (unsigned char)~before[i];
     }
-    if (memcmp(written[0], written[1], size[last])) wrong(c, direction, n, "output not written whole", 0);
-}
-
-/* The two good lengths of a buffer (the same twice, where it has one), and three bad ones. */
-static void lengths_of(const struct call *c, int b, size_t to[5])
-{
-    size_t batch = c->word == 4 ? 32 : 64, good = c->takes[b] == 'o' && strlen(c->takes) == 2 ? 3 : batch;
-
-    to[0] = c->takes[b] == 'k' ? 16 : c->takes[b] == 's' ? 88 : good;
-    to[1] = c->takes[b] == 'k' ? 32 : c->takes[b] == 's' ? 120 : good;
-    to[2] = to[0] - 1;
-    to[3] = to[1] + 1;
-    to[4] = 0;
 }
 
 /* One choice of lengths, at the pages' beginnings and ends, with null for each length of 0, and off any alignment. */
-static void try_places(size_t call, uint32_t direction, const size_t n[3])
+static void try_places(const struct call *c, uint32_t direction, const size_t n[3])
 {
     static const enum place begin[3] = {BEGIN, BEGIN, BEGIN}, end[3] = {END, END, END}, odd[3] = {ODD, ODD, ODD};
     const enum place null[3] = {n[0] ? END : NOWHERE, n[1] ? BEGIN : NOWHERE, n[2] ? END : NOWHERE};
 
-    try(call, direction, n, begin);
-    try(call, direction, n, end);
-    if (!n[0] || !n[1] || !n[2]) try(call, direction, n, null);
-    if (!expected(&calls[call], direction, n)) try(call, direction, n, odd);
+    try(c, direction, n, begin);
+    try(c, direction, n, end);
+    if (!n[0] || !n[1] || !n[2]) try(c, direction, n, null);
+    if (!number(c, direction, n)) try(c, direction, n, odd);
 }
 
-/* Buffers a and b take every length of the list together; a third buffer takes its good and some bad ones. */
-static void try_pair(size_t call, uint32_t direction, int a, int b, const size_t *list, size_t count)
+/* Buffers a and b take every length of the list together; a third buffer its right ones, and wrong ones beside. */
+static void try_pair(const struct call *c, uint32_t direction, int a, int b, const size_t *list, size_t count)
 {
-    const struct call *c = &calls[call];
-    int third = 3 - a - b, t;
-    size_t others[5] = {0}, n[3], i, j;
+    int third = 3 - a - b;
+    size_t others[3 * SIZES + 1] = {0}, others_count = 1, n[3], t, i, j;
 
-    if (c->takes[2]) lengths_of(c, third, others);
-    for (t = 0; t < (c->takes[2] ? 5 : 1); t++)
+    for (i = 0; i < SIZES && c->takes[2]; i++)
+        if (!i || right_length(c, third, &sizes[i]) != right_length(c, third, &sizes[i - 1]))
+            for (j = 0; j < 3; j++) others[others_count++] = right_length(c, third, &sizes[i]) + j - 1;
+    for (t = 0; t < others_count; t++)
         for (i = 0; i < count; i++)
             for (j = 0; j < count; j++) {
                 n[third] = others[t];
                 n[a] = list[i];
                 n[b] = list[j];
-                try_places(call, direction, n);
+                try_places(c, direction, n);
             }
 }
 
-/* Each buffer in turn longer than a number of 16 or 32 bits can say, by a good length; the others good. */
-static void try_long(size_t call, uint32_t direction)
+/* Each buffer in turn longer than a number of 16 or 32 bits can say, by a right length; the others right. */
+static void try_long(const struct call *c, uint32_t direction)
 {
-    const struct call *c = &calls[call];
-    int last = (int)strlen(c->takes) - 1, b, g, other;
-    size_t good[5], n[3] = {0}, k;
+    int b, other;
+    size_t n[3] = {0}, k, z;
 
-    for (b = 0; b <= last; b++)
-        for (g = 0; g < 2; g++)
+    for (b = 0; b <= last_of(c); b++)
+        for (z = 0; z < SIZES; z++)
             for (k = 65536; k <= HUGE; k *= 65536) {
                 enum place place[3] = {BEGIN, BEGIN, BEGIN};
-                for (other = 0; other <= last; other++) {
-                    lengths_of(c, other, good);
-                    n[other] = good[g];
-                }
+                for (other = 0; other <= last_of(c); other++) n[other] = right_length(c, other, &sizes[z]);
                 n[b] += k;
                 place[b] = WIDE;
-                try(call, direction, n, place);
+                try(c, direction, n, place);
             }
 }
 
@@ -195,11 +152,17 @@ static unsigned char *map(size_t size, int protection)
 int main(void)
 {
     static const uint32_t directions[] = {0, 1, 2, 3, 4, 256, 257, 65537, UINT32_MAX};
-    /* Lengths beyond 130: a byte's worth too far by a good length, and the longest schedule that fits a page. */
+    /* Lengths beyond 130: a byte's worth too far by a right length, and the longest schedule that fits a page. */
     static const size_t more[] = {256 + 3, 256 + 16, 256 + 32, 256 + 64, 256 + 88, 256 + 120, 511, 512};
     size_t list[131 + sizeof more / sizeof more[0]], count = 131, call, d, i;
+    const char *missed = plain_begin();
+    struct sigaction report = {0};
     int b;
 
+    if (missed) return printf("FAILED: the plain AES itself, at %s\n", missed), 1;
+    report.sa_sigaction = fault;
+    report.sa_flags = SA_SIGINFO;
+    if (sigaction(SIGSEGV, &report, NULL) || sigaction(SIGBUS, &report, NULL)) return perror("sigaction"), 2;
     for (i = 0; i <= 130; i++) list[i] = i;
     for (i = 0; i < sizeof more / sizeof more[0]; i++) list[count++] = more[i];
     for (b = 0; b < 3; b++) {
@@ -208,18 +171,19 @@ int main(void)
         page[b] = three + PAGE;
         for (i = 0; i < PAGE; i++) held[b][i] = (unsigned char)(i * 167 + (i >> 8) * 59 + (size_t)b * 71 + 5);
         memcpy(page[b], held[b], PAGE);
+        if (mprotect(page[b], PAGE, PROT_READ)) return perror("mprotect"), 2;
     }
-    wide = map(8 * (HUGE + 256), PROT_READ | PROT_WRITE);
+    wide = map(8 * (HUGE + 256), PROT_READ);
     if (wide == MAP_FAILED) printf("skipped: lengths from 2^16, since 34 GB of address space are not to be had\n");
 
     for (call = 0; call < CALLS; call++)
-        for (d = 0; d < (call == DOOR ? sizeof directions / sizeof directions[0] : 1); d++) {
-            try_pair(call, directions[d], 0, 1, list, count);
-            if (strlen(calls[call].takes) == 3) {
-                try_pair(call, directions[d], 0, 2, list, count);
-                try_pair(call, directions[d], 1, 2, list, count);
+        for (d = 0; d < (calls[call].gives == AS_DIRECTED ? sizeof directions / sizeof directions[0] : 1); d++) {
+            try_pair(&calls[call], directions[d], 0, 1, list, count);
+            if (last_of(&calls[call]) == 2) {
+                try_pair(&calls[call], directions[d], 0, 2, list, count);
+                try_pair(&calls[call], directions[d], 1, 2, list, count);
             }
-            if (wide != MAP_FAILED) try_long(call, directions[d]);
+            if (wide != MAP_FAILED) try_long(&calls[call], directions[d]);
         }
     for (i = 0; i < 6; i++)
         if (!answered[i]) return printf("FAILED: the answer %zu was never met\n", i), 1;

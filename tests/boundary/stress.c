@@ -1,79 +1,114 @@
 /*
- * Random calls of the door against a plain AES written here from FIPS-197, byte by byte.
- * It needs no Rust. Both directions and key lengths take turns; decryption is judged by encrypting what came out.
+ * Every exported function, at its right lengths, judged by the plain AES: stress SEED ROUNDS
+ *
+ * Random keys, blocks and schedules, whose slots differ, and schedules made from keys; then patterns in what a call
+ * reads: all bytes alike, one slot alone, and every single bit set alone and clear alone. It needs no Rust.
  */
 #include <stdio.h>
-#include <string.h>
+#include <stdlib.h>
 
-#include "locker_aes.h"
+#include "calls.h"
 
-static uint8_t sbox[256];
+static uint64_t buffer[3][MOST_WRITTEN / 8 + 2]; /* each with two words to spare, which must stay */
+static uint64_t seed, state;
+static unsigned long judged;
 
-static uint8_t xtime(uint8_t a)
+static void fill(void)
 {
-    return (uint8_t)(a << 1 ^ (a >> 7) * 0x1b);
+    size_t b, i;
+    for (b = 0; b < 3; b++)
+        for (i = 0; i < sizeof buffer[b] / 8; i++) buffer[b][i] = random64(&state);
 }
 
-static uint8_t times(uint8_t a, uint8_t b) /* the product in the field */
+/* One call over the buffers as they stand. */
+static void judge(const struct call *c, uint32_t direction, const struct size *z, const char *of)
 {
-    return b ? times(xtime(a), b >> 1) ^ (b & 1 ? a : 0) : 0;
+    static uint64_t right[3][MOST_WRITTEN / 8 + 2];
+    void *const at[3] = {buffer[0], buffer[1], buffer[2]};
+    size_t n[3] = {0};
+    uint32_t answer;
+    int b;
+
+    for (b = 0; b <= last_of(c); b++) n[b] = right_length(c, b, z);
+    memcpy(right, buffer, sizeof right);
+    content(c, direction, at, n, right[last_of(c)]);
+    answer = run(c, direction, at, n);
+    judged++;
+    if (answer == 0 && !memcmp(right, buffer, sizeof right)) return;
+    printf("FAILED: %s, direction %u, key of %zu, %s, call %lu of seed %llu: answer %u", c->name, (unsigned)direction,
+           z->key, of, judged, (unsigned long long)seed, (unsigned)answer);
+    for (b = 0; b <= last_of(c); b++)
+        if (memcmp(right[b], buffer[b], sizeof right[b]))
+            printf(b < last_of(c) ? ", an input changed" : ", wrong content");
+    printf("\n");
+    exit(1);
 }
 
-static void make_sbox(void) /* 5.1.1: the inverse, then the affine map */
+/* Random bytes everywhere; every second schedule is made from a key. */
+static void random_buffers(const struct call *c, const struct size *z, int made)
 {
-    int a, b, k;
-    for (a = 0; a < 256; a++) {
-        uint8_t inverse = 0, s = 0x63;
-        for (b = 0; b < 256; b++) if (times((uint8_t)a, (uint8_t)b) == 1) inverse = (uint8_t)b;
-        for (k = 0; k < 5; k++) s ^= (uint8_t)(inverse << k | inverse >> (8 - k));
-        sbox[a] = s;
-    }
+    uint8_t keys[MOST_KEYS];
+
+    fill();
+    if (c->takes[0] != 's' || !made) return;
+    key_expansion((uint8_t *)buffer[1], z->key, keys);
+    make_schedule(c->w, keys, z->rounds, buffer[0]);
 }
 
-static void cipher(const uint8_t *key, size_t n, const uint8_t *in, uint8_t *s) /* 5.1 and 5.2 */
+static void patterns(const struct call *c, uint32_t direction, const struct size *z)
 {
-    uint8_t w[240], t[16], c = 1;
-    size_t i, r, rounds = n / 4 + 6;
+    static const uint8_t alike[] = {0x00, 0xff, 0x63, 0x80};
+    size_t i, bit, size, slot;
+    int b, background;
 
-    memcpy(w, key, n);
-    for (i = n; i < 16 * (rounds + 1); i += 4) {
-        memcpy(t, w + i - 4, 4);
-        if (i % n == 0) {
-            t[0] = sbox[w[i - 3]] ^ c, t[1] = sbox[w[i - 2]], t[2] = sbox[w[i - 1]], t[3] = sbox[w[i - 4]];
-            c = xtime(c);
-        } else if (n == 32 && i % n == 16)
-            for (r = 0; r < 4; r++) t[r] = sbox[t[r]];
-        for (r = 0; r < 4; r++) w[i + r] = w[i + r - n] ^ t[r];
+    for (i = 0; i < sizeof alike; i++) {
+        fill();
+        for (b = 0; b < last_of(c); b++) memset(buffer[b], alike[i], sizeof buffer[b]);
+        judge(c, direction, z, "bytes alike");
     }
-    for (i = 0; i < 16; i++) s[i] = in[i] ^ w[i];
-    for (r = 1; r <= rounds; r++) {
-        for (i = 0; i < 16; i++) t[i] = sbox[s[(i + 4 * (i % 4)) % 16]];
-        for (i = 0; i < 16; i++) {
-            const uint8_t *col = t + i / 4 * 4;
-            uint8_t a = col[i % 4], b = col[(i + 1) % 4];
-            uint8_t mixed = xtime(a ^ b) ^ b ^ col[(i + 2) % 4] ^ col[(i + 3) % 4];
-            s[i] = (r == rounds ? a : mixed) ^ w[16 * r + i];
-        }
+    for (slot = 0; slot < c->w->slots; slot++) {
+        fill();
+        if (c->takes[1] == 'i')
+            for (i = 0; i < 16 * c->w->slots; i++) if (i / 16 != slot) ((uint8_t *)buffer[1])[i] = 0;
+        judge(c, direction, z, "one block");
+        if (c->takes[0] == 's')
+            for (i = 0; i < z->words; i++) {
+                uint64_t mask = 0;
+                for (bit = 0; bit < 16; bit++) mask |= (uint64_t)1 << place(c->w, bit, slot);
+                set_word(c->w, buffer[0], i, get_word(c->w, buffer[0], i) & mask);
+            }
+        judge(c, direction, z, "one slot");
     }
+    for (b = 0; b < last_of(c); b++)
+        for (size = right_length(c, b, z) * element(c, b), bit = 0; bit < 8 * size; bit++)
+            for (background = 0; background < 256; background += 255) {
+                if (bit % 64 == 0) fill();
+                memset(buffer[b], background, size);
+                ((uint8_t *)buffer[b])[bit / 8] ^= (uint8_t)(1 << bit % 8);
+                judge(c, direction, z, "one bit");
+            }
 }
 
-int main(void)
+int main(int argc, char **argv)
 {
-    unsigned i, j, count = 20000;
-    uint64_t x = 197;
-    uint8_t bytes[32 + 64 + 64], *key = bytes, *input = key + 32, *output = input + 64, block[16];
+    const char *missed = plain_begin();
+    unsigned long rounds, i;
+    size_t call, z;
+    uint32_t direction;
 
-    make_sbox();
-    for (i = 0; i < count; i++) {
-        unsigned direction = i % 2, n = i % 4 < 2 ? 16 : 32;
-        for (j = 0; j < sizeof bytes; j++, x = x * 6364136223846793005u + 1442695040888963407u)
-            bytes[j] = (uint8_t)(x >> 56);
-        if (locker_aes(direction, key, n, input, 64, output, 64)) return printf("FAILED: call %u refused\n", i), 1;
-        for (j = 0; j < 64; j += 16) {
-            cipher(key, n, (direction ? output : input) + j, block);
-            if (memcmp(block, (direction ? input : output) + j, 16))
-                return printf("FAILED: call %u, direction %u, block %u is not AES\n", i, direction, j / 16), 1;
-        }
-    }
-    return printf("ok stress: %u random batches by the door, as a plain AES has them\n", count), 0;
+    if (missed) return printf("FAILED: the plain AES itself, at %s\n", missed), 1;
+    if (argc != 3) return printf("stress SEED ROUNDS\n"), 2;
+    state = seed = strtoull(argv[1], NULL, 10);
+    rounds = strtoul(argv[2], NULL, 10);
+    for (call = 0; call < CALLS; call++)
+        for (z = 0; z < SIZES; z++)
+            for (direction = 0; direction < (calls[call].gives == AS_DIRECTED ? 2 : 1); direction++) {
+                for (i = 0; i < rounds; i++) {
+                    random_buffers(&calls[call], &sizes[z], (int)(i % 2));
+                    judge(&calls[call], direction, &sizes[z], "random");
+                }
+                patterns(&calls[call], direction, &sizes[z]);
+            }
+    return printf("ok stress: %lu calls of %d functions as a plain AES has them, seed %llu\n", judged, (int)CALLS,
+                  (unsigned long long)seed), 0;
 }

@@ -1,13 +1,8 @@
+# shellcheck shell=sh disable=SC2154 # what common.sh and the script that sources this have set
 # Sourced after common.sh by the scripts that run the Rust: builds target/rust_aes/librust_aes.rlib, or says `skipped:` and exits 0.
-# AES_RUST_SRC is the folder src of the crate aes 0.9.3; nothing of it is copied.
-rust_src=${AES_RUST_SRC:-/work/shared/docs/src/src}
-[ -f "$rust_src/backends/fixslice/mod.rs" ] || {
-    echo "skipped: no Rust source at $rust_src (AES_RUST_SRC says where the folder src of aes 0.9.3 is)"
-    exit 0
-}
-minor=$(rustc --version 2>/dev/null | sed -n 's/^rustc 1\.\([0-9]*\)\..*/\1/p')
-[ "${minor:-0}" -ge 85 ] || {
-    echo "skipped: no rustc 1.85 or newer, which the source needs"
+# Nothing of the Rust source is copied.
+has_rust || {
+    echo "skipped: $missing"
     exit 0
 }
 rust=$top/target/rust_aes

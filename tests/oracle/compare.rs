@@ -1,8 +1,8 @@
 //! Ours, linked from the static library, against the Rust: compare SEED COUNT.
 //!
 //! Every call is judged whole: its number, every element of the buffer that it may write, its inputs, and guard
-//! elements around each buffer. The refusals are not the Rust's; they are stated here from paper 01's table.
-use rust_aes::{Element, FIPS_KEYS, Random, Width, hex, words};
+//! elements around each buffer. The refusals are not the Rust's; they are stated here from docs/SCOPE.md's table.
+use rust_aes::{Element, FIPS_KEYS, Random, SIZES, Width, hex, words};
 
 type Expand<W> = unsafe extern "C" fn(*const u8, usize, *mut W, usize) -> u32;
 type Crypt<W> = unsafe extern "C" fn(*const W, usize, *const u8, usize, *mut u8, usize) -> u32;
@@ -53,7 +53,11 @@ fn outcome<T: Copy>(refusals: &[(u32, bool)], buffer: &[T], write: impl FnOnce(&
 }
 
 fn bad_key(key: &[u8]) -> bool {
-    key.len() != 16 && key.len() != 32
+    SIZES.iter().all(|size| size.0 != key.len())
+}
+
+fn bad_schedule<W>(schedule: &[W]) -> bool {
+    SIZES.iter().all(|size| size.1 != schedule.len())
 }
 
 fn expanded<W: Width>(key: &[u8], schedule: &[W]) -> Outcome<W> {
@@ -62,14 +66,12 @@ fn expanded<W: Width>(key: &[u8], schedule: &[W]) -> Outcome<W> {
 }
 
 fn crypted<W: Width>(direction: u32, schedule: &[W], input: &[u8], output: &[u8]) -> Outcome<u8> {
-    let n = schedule.len();
-    let refusals = [(2, n != 88 && n != 120), (3, input.len() != W::BATCH), (4, output.len() != W::BATCH)];
+    let refusals = [(2, bad_schedule(schedule)), (3, input.len() != W::BATCH), (4, output.len() != W::BATCH)];
     outcome(&refusals, output, |to| W::crypt(direction, schedule, input, to))
 }
 
 fn checked<W: Width>(schedule: &[W], output: &[u8]) -> Outcome<u8> {
-    let n = schedule.len();
-    outcome(&[(2, n != 88 && n != 120), (4, output.len() != 3)], output, |to| {
+    outcome(&[(2, bad_schedule(schedule)), (4, output.len() != 3)], output, |to| {
         let mut batch = vec![0; W::BATCH];
         W::crypt(0, schedule, &vec![0; W::BATCH], &mut batch);
         to.copy_from_slice(&batch[..3]);
@@ -107,7 +109,7 @@ impl<T: Element> Lent<T> {
     }
 }
 
-/// Lengths on both sides of every limit of paper 01.
+/// Lengths on both sides of every limit of docs/SCOPE.md.
 const LENGTHS: [usize; 25] =
     [0, 1, 2, 3, 4, 8, 15, 16, 17, 24, 31, 32, 33, 48, 63, 64, 65, 87, 88, 89, 104, 119, 120, 121, 128];
 
@@ -131,13 +133,20 @@ impl Run {
         self.some(n)
     }
 
-    /// Holds an answer, the written buffer and whether the inputs were kept to what was expected.
-    fn judge<T: Element>(&mut self, call: &str, given: &[String], got: (u32, &Lent<T>, bool), expected: Outcome<T>) {
+    /// Holds an answer, the written buffer and whether the inputs were kept to what was expected; `said` names the
+    /// call and what it was given, and is asked only when they differ.
+    fn judge<T: Element>(
+        &mut self,
+        got: (u32, &Lent<T>, bool),
+        expected: Outcome<T>,
+        said: impl FnOnce() -> (String, Vec<String>),
+    ) {
         let (answer, lent, kept) = got;
         self.refusals += u64::from(expected.0 != 0);
         if answer == expected.0 && kept && lent.holds(&expected.1) {
             return;
         }
+        let (call, given) = said();
         println!("FAILED: {call}");
         given.iter().for_each(|i| println!("  given    {i}"));
         println!("  expected {} {}", expected.0, hex(&expected.1));
@@ -151,31 +160,32 @@ impl Run {
     fn expand<W: Ours>(&mut self, key: &[u8], schedule: &[W]) {
         let (mut k, mut s) = (Lent::new(key), Lent::new(schedule));
         let answer = unsafe { W::EXPAND(k.at(), k.len(), s.at(), s.len()) };
-        let call = format!("expand, {} bits", 8 * size_of::<W>());
-        self.judge(&call, &[hex(key)], (answer, &s, k.holds(key)), expanded(key, schedule));
+        let said = || (format!("expand, {} bits", 8 * size_of::<W>()), vec![hex(key)]);
+        self.judge((answer, &s, k.holds(key)), expanded(key, schedule), said);
     }
 
     fn crypt<W: Ours>(&mut self, direction: u32, schedule: &[W], input: &[u8], output: &[u8]) {
         let (mut s, mut i, mut o) = (Lent::new(schedule), Lent::new(input), Lent::new(output));
         let answer = unsafe { W::CRYPT[direction as usize](s.at(), s.len(), i.at(), i.len(), o.at(), o.len()) };
-        let call = format!("crypt in direction {direction}, {} bits", 8 * size_of::<W>());
         let got = (answer, &o, s.holds(schedule) && i.holds(input));
-        self.judge(&call, &[hex(schedule), hex(input)], got, crypted(direction, schedule, input, output));
+        let call = || format!("crypt in direction {direction}, {} bits", 8 * size_of::<W>());
+        let said = || (call(), vec![hex(schedule), hex(input)]);
+        self.judge(got, crypted(direction, schedule, input, output), said);
     }
 
     fn check<W: Ours>(&mut self, schedule: &[W], output: &[u8]) {
         let (mut s, mut o) = (Lent::new(schedule), Lent::new(output));
         let answer = unsafe { W::CHECK(s.at(), s.len(), o.at(), o.len()) };
-        let call = format!("check, {} bits", 8 * size_of::<W>());
-        self.judge(&call, &[hex(schedule)], (answer, &o, s.holds(schedule)), checked(schedule, output));
+        let said = || (format!("check, {} bits", 8 * size_of::<W>()), vec![hex(schedule)]);
+        self.judge((answer, &o, s.holds(schedule)), checked(schedule, output), said);
     }
 
     fn door(&mut self, direction: u32, key: &[u8], input: &[u8], output: &[u8]) {
         let (mut k, mut i, mut o) = (Lent::new(key), Lent::new(input), Lent::new(output));
         let answer = unsafe { locker_aes(direction, k.at(), k.len(), i.at(), i.len(), o.at(), o.len()) };
-        let call = format!("door in direction {direction}");
         let got = (answer, &o, k.holds(key) && i.holds(input));
-        self.judge(&call, &[hex(key), hex(input)], got, by_door(direction, key, input, output));
+        let said = || (format!("door in direction {direction}"), vec![hex(key), hex(input)]);
+        self.judge(got, by_door(direction, key, input, output), said);
     }
 
     /// One key and one schedule at one width: good calls, and then calls with any of the lengths.
@@ -201,6 +211,43 @@ impl Run {
             let direction = (self.random.next() % 2) as u32;
             self.crypt(direction, schedule, &input, &output);
             self.check(schedule, &output);
+        }
+    }
+
+    /// Both directions and the check value under one schedule.
+    fn under<W: Ours>(&mut self, schedule: &[W], input: &[u8]) {
+        for direction in 0..2 {
+            let output = self.some::<u8>(W::BATCH);
+            self.crypt(direction, schedule, input, &output);
+        }
+        let output = self.some::<u8>(3);
+        self.check(schedule, &output);
+        (self.batches, self.checks) = (self.batches + 2, self.checks + 1);
+    }
+
+    /// Schedules of n words and batches: every bit set alone and clear alone, and every slot filled alone.
+    fn patterns<W: Ours>(&mut self, n: usize) {
+        let (bits, slots) = (8 * size_of::<W>(), W::BATCH / 16);
+        for all in [0, u64::MAX] {
+            for bit in 0..n * bits {
+                let mut schedule = vec![W::low(all); n];
+                schedule[bit / bits] = W::low(all ^ 1 << (bit % bits));
+                let input = self.some(W::BATCH);
+                self.under(&schedule, &input);
+            }
+            let schedule = self.some::<W>(n);
+            for bit in 0..8 * W::BATCH {
+                let mut input = vec![all as u8; W::BATCH];
+                input[bit / 8] ^= 1 << (bit % 8);
+                self.under(&schedule, &input);
+            }
+            for slot in (0..slots).cycle().take(16 * slots) {
+                let others = (0..64).filter(|bit| bit % slots != slot).fold(0, |mask, bit| mask | 1u64 << bit);
+                let word = |random: &mut Random| W::low(random.next() & !others | all & others);
+                let schedule: Vec<W> = (0..n).map(|_| word(&mut self.random)).collect();
+                let input = self.some(W::BATCH);
+                self.under(&schedule, &input);
+            }
         }
     }
 
@@ -234,25 +281,28 @@ fn structured(len: usize) -> Vec<Vec<u8>> {
 fn main() {
     let args: Vec<u64> = std::env::args().skip(1).map(|a| a.parse().expect("SEED COUNT, decimal")).collect();
     let (seed, count) = (args[0], args[1]);
-    println!("oracle: seed {seed}, at least {count} batches under random keys");
+    println!(
+        "oracle: seed {seed}, at least {count} batches under random keys (again: tests/oracle/run.sh {count} {seed})"
+    );
     let mut run = Run { random: Random(seed), batches: 0, schedules: 0, checks: 0, refusals: 0 };
-    for len in [16, 32] {
-        let n = words(len);
+    for (len, n) in SIZES {
         for (i, key) in structured(len).iter().enumerate() {
             let same = [0, u64::MAX, 0x6363_6363_6363_6363][i % 3]; // schedules of equal words
             run.key(key, &vec![same as u32; n], &vec![same; n]);
         }
+        run.patterns::<u32>(n);
+        run.patterns::<u64>(n);
     }
     let least = run.batches + count;
     while run.batches < least {
-        for len in [16, 32] {
+        for (len, n) in SIZES {
             let key = run.some::<u8>(len);
-            let (any32, any64) = (run.some(words(len)), run.some(words(len)));
+            let (any32, any64) = (run.some(n), run.some(n));
             run.key(&key, &any32, &any64);
         }
     }
     println!(
-        "ok oracle: {} batches, {} schedules, {} check values and {} refusals as the Rust and paper 01 have them",
+        "ok oracle: {} batches, {} schedules, {} check values and {} refusals as the Rust and docs/SCOPE.md have them",
         run.batches, run.schedules, run.checks, run.refusals
     );
 }

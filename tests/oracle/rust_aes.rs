@@ -77,9 +77,12 @@ pub(crate) type Block = Array<u8, consts::U16>;
 #[path = "AES_RUST_SRC/backends/fixslice/mod.rs"]
 mod fixslice;
 
-/// The words of a schedule for a key of this many bytes.
+/// A key's bytes, and the words of its schedule.
+pub const SIZES: [(usize, usize); 2] = [(16, 88), (32, 120)];
+
+/// The words of a schedule for a key of this many bytes, or 0.
 pub fn words(key_len: usize) -> usize {
-    if key_len == 16 { 88 } else { 120 }
+    SIZES.iter().find(|size| size.0 == key_len).map_or(0, |size| size.1)
 }
 
 /// The keys of FIPS-197's Appendix A.1 and A.3.

@@ -3,101 +3,108 @@
  *
  * Under valgrind's memcheck every such byte is marked as undefined before each call; lengths and the direction stay
  * defined. memcheck follows the marks bit by bit and reports each conditional jump and each address that depends on
- * one. That says nothing about time, and only what was run was seen.
+ * one. Refused calls are watched as well as answered ones. That says nothing about time, and only what was run was
+ * seen.
  *
  *   secret            runs every function and must give no report
- *   secret branch     has a branch on a key byte planted before a call: memcheck must report it
- *   secret lookup     has a table lookup by a key byte planted: the same
+ *   secret branch     has a branch on a key byte planted in front of an answered call: memcheck must report it
+ *   secret lookup     has a table lookup by a key byte planted there: the same
+ *   secret refused    has a branch on a key byte planted in front of a refused call: the same
  */
 #include <stdio.h>
 #include <stdlib.h>
-#include <string.h>
 #include <valgrind/memcheck.h>
 
-#include "locker_aes.h"
+#include "../boundary/calls.h"
 
+enum { LONGEST = 300 };
 static const char *planted = "";
-static uint8_t key[32], input[64], output[64];
-static uint32_t schedule32[120];
-static uint64_t schedule64[120];
-static unsigned calls;
+static uint64_t buffer[3][LONGEST], held[3][LONGEST];
+static unsigned long watched, answered;
 
-static void secret(void *bytes, size_t n)
+/* The call with a fault planted in front, to know that the test sees. Volatile keeps it in the code. */
+static volatile uint8_t table[256];
+
+__attribute__((noinline)) static uint32_t with_fault(const struct call *c, uint32_t direction, void *const at[3],
+                                                     const size_t n[3])
 {
-    VALGRIND_MAKE_MEM_UNDEFINED(bytes, n);
+    uint8_t first = *(const uint8_t *)at[0];
+
+    if (c->takes[0] == 'k' && n[0] == 16 && !strcmp(planted, "branch") && first == 1) table[0] = 1;
+    if (c->takes[0] == 'k' && n[0] == 16 && !strcmp(planted, "lookup")) table[first] = 1;
+    if (c->takes[0] == 'k' && n[0] == 17 && !strcmp(planted, "refused") && first == 1) table[0] = 1;
+    return run(c, direction, at, n);
 }
 
-/* A copy of the call with a fault planted in front, to know that the test sees. Volatile keeps it in the code. */
-static uint32_t expand64(const uint8_t *k, size_t n, uint64_t *schedule, size_t words)
+static void wrong(const struct call *c, const size_t n[3], const char *what)
 {
-    static volatile uint8_t table[256];
-
-    if (!strcmp(planted, "branch") && k[0] == 1) table[0] = 1;
-    if (!strcmp(planted, "lookup")) (void)table[k[0]];
-    return locker_aes_expand64(k, n, schedule, words);
+    printf("FAILED: %s, lengths %zu %zu %zu: %s\n", c->name, n[0], n[1], last_of(c) == 2 ? n[2] : 0, what);
+    exit(1);
 }
 
 /* The number must be the expected one, and known without the secrets; every bit written must depend on them. */
-static void answers(const char *call, uint32_t got, uint32_t expected, const void *written, size_t n)
+static void watch(const struct call *c, uint32_t direction, const size_t n[3])
 {
-    uint8_t marks[sizeof schedule64];
-    size_t i;
+    static uint64_t right[LONGEST];
+    static uint8_t marks[8 * LONGEST];
+    void *const at[3] = {buffer[0], buffer[1], buffer[2]};
+    int last = last_of(c), b;
+    size_t size = n[last] * element(c, last), i;
 
-    calls++;
-    if (got != expected) {
-        printf("FAILED: %s answered %u and not %u\n", call, (unsigned)got, (unsigned)expected);
-        exit(1);
+    for (b = 0; b <= last; b++) (void)VALGRIND_MAKE_MEM_UNDEFINED(buffer[b], n[b] * element(c, b));
+    if (with_fault(c, direction, at, n) != number(c, direction, n)) wrong(c, n, "wrong number");
+    watched++;
+    if (number(c, direction, n) == 0) {
+        answered++;
+        if (VALGRIND_GET_VBITS(buffer[last], marks, size) == 1)
+            for (i = 0; i < size; i++)
+                if (marks[i] != 0xff) wrong(c, n, "wrote a bit that depends on no secret: the marks were lost");
     }
-    if (VALGRIND_GET_VBITS(written, marks, n) != 1) return; /* not under valgrind */
-    for (i = 0; i < n; i++)
-        if (expected == 0 && marks[i] != 0xff) {
-            printf("FAILED: %s wrote a bit that depends on no secret: the marks were lost\n", call);
-            exit(1);
-        }
+    for (b = 0; b <= last; b++) (void)VALGRIND_MAKE_MEM_DEFINED(buffer[b], n[b] * element(c, b));
+    if (number(c, direction, n) != 0) return;
+    content(c, direction, at, n, right);
+    if (memcmp(buffer[last], right, size)) wrong(c, n, "wrong content");
+    memcpy(buffer, held, sizeof buffer);
 }
 
-/* Encryption, decryption and check value under one schedule of either width, with all bytes marked anew. */
-#define BATCH(BITS, WORDS)                                                                                            \
-    do {                                                                                                              \
-        size_t n = LOCKER_AES_BATCH_##BITS;                                                                           \
-        secret(schedule##BITS, sizeof schedule##BITS);                                                                \
-        secret(input, sizeof input);                                                                                  \
-        answers("encrypt" #BITS, locker_aes_encrypt##BITS(schedule##BITS, WORDS, input, n, output, n), 0, output, n); \
-        answers("decrypt" #BITS, locker_aes_decrypt##BITS(schedule##BITS, WORDS, input, n, output, n), 0, output, n); \
-        answers("check" #BITS, locker_aes_check##BITS(schedule##BITS, WORDS, output, 3), 0, output, 3);               \
-        answers("encrypt" #BITS, locker_aes_encrypt##BITS(schedule##BITS, 87, input, n, output, n), 2, output, n);    \
-        answers("decrypt" #BITS, locker_aes_decrypt##BITS(schedule##BITS, WORDS, input, 7, output, n), 3, output, n); \
-        answers("check" #BITS, locker_aes_check##BITS(schedule##BITS, WORDS, output, 2), 4, output, 2);               \
-    } while (0)
+/* One buffer at each length, the others right; then all buffers at each of the lengths around the limits. */
+static void watch_lengths(const struct call *c, uint32_t direction)
+{
+    static const size_t around[] = {0,  1,  3,  4,  15, 16, 17, 24,  31,  32,  33, 48,
+                                    63, 64, 65, 87, 88, 89, 104, 119, 120, 121, 128};
+    size_t count = sizeof around / sizeof around[0], n[3] = {0}, z, i, j, k;
+    int b, other;
+
+    for (z = 0; z < SIZES; z++)
+        for (b = 0; b <= last_of(c); b++)
+            for (i = 0; i <= LONGEST; i++) {
+                for (other = 0; other <= last_of(c); other++) n[other] = right_length(c, other, &sizes[z]);
+                n[b] = i;
+                watch(c, direction, n);
+            }
+    for (i = 0; i < count; i++)
+        for (j = 0; j < count; j++)
+            for (k = 0; k < (last_of(c) == 2 ? count : 1); k++) {
+                n[0] = around[i], n[1] = around[j], n[2] = around[k];
+                watch(c, direction, n);
+            }
+}
 
 int main(int argc, char **argv)
 {
-    /* FIPS-197's Appendix C.1 and C.3: what comes out in the end shows that the work was done. */
-    static const uint8_t first[2][4] = {{0x69, 0xc4, 0xe0, 0xd8}, {0x8e, 0xa2, 0xb7, 0xca}};
-    size_t n, words, i;
-    uint32_t direction;
+    static const uint32_t directions[] = {0, 1, 2, UINT32_MAX};
+    const char *missed = plain_begin();
+    uint64_t state = 197;
+    size_t call, d, b, i;
 
+    if (missed) return printf("FAILED: the plain AES itself, at %s\n", missed), 1;
     if (argc > 1) planted = argv[1];
-    for (n = 16; n <= 32; n += 16) {
-        words = n == 16 ? LOCKER_AES_WORDS_128 : LOCKER_AES_WORDS_256;
-        for (i = 0; i < 32; i++) key[i] = (uint8_t)i;
-        for (i = 0; i < 64; i++) input[i] = (uint8_t)(i % 16 * 0x11);
-
-        secret(key, sizeof key);
-        answers("expand32", locker_aes_expand32(key, n, schedule32, words), 0, schedule32, words * 4);
-        answers("expand32", locker_aes_expand32(key, n, schedule32, 89), 2, schedule32, 4);
-        BATCH(32, words);
-        answers("expand64", expand64(key, n, schedule64, words), 0, schedule64, words * 8);
-        answers("expand64", locker_aes_expand64(key, 17, schedule64, words), 1, schedule64, 8);
-        BATCH(64, words);
-        for (direction = 0; direction < 3; direction++)
-            answers("door", locker_aes(direction, key, n, input, 64, output, 64), direction < 2 ? 0 : 5, output, 64);
-        answers("door", locker_aes(0, key, n, input, 64, output, 64), 0, output, 64);
-
-        VALGRIND_MAKE_MEM_DEFINED(output, sizeof output);
-        for (i = 0; i < 64; i += 16)
-            if (memcmp(output + i, first[n / 32], 4)) return printf("FAILED: wrong ciphertext\n"), 1;
-    }
-    if (!*planted) printf("%u calls with their keys, schedules and blocks marked\n", calls);
+    for (b = 0; b < 3; b++)
+        for (i = 0; i < LONGEST; i++) buffer[b][i] = held[b][i] = random64(&state);
+    for (call = 0; call < (*planted ? 1 : CALLS); call++) /* the door is enough to see a planted fault */
+        for (d = 0; d < (calls[call].gives == AS_DIRECTED ? sizeof directions / sizeof directions[0] : 1); d++)
+            watch_lengths(&calls[call], directions[d]);
+    if (!*planted)
+        printf("%lu calls with their keys, schedules and blocks marked, %lu of them answered\n", watched, answered);
     return 0;
 }

@@ -3,26 +3,32 @@ pub mod w32;
 pub mod w64;
 
 ghost use mathlib.Core.Path.{_≡_};
-ghost use Rattle.aes.specs.Outcome.{roundsOf, scheduleWords};
+ghost use Rattle.lanes.specs.Sizes.{scheduleSize};
+ghost use Rattle.aes.specs.KeySize.{sizeFor};
 
-// The number of rounds of a schedule of so many words; 0 where there is none.
+// What the length of a key says: the number of rounds and the words of its schedule; or that it is no key.
+pub enum KeySize {
+    Of(usize, usize),
+    NoKey,
+}
+
+pub fn key_size(bytes: usize) -> KeySize
+    ensures { λ r. ⌜ r ≡ sizeFor bytes ⌝ }
+{
+    match bytes {
+        16 => KeySize::Of(10, 88),
+        32 => KeySize::Of(14, 120),
+        _ => KeySize::NoKey,
+    }
+}
+
+// The number of rounds of a schedule of so many words; 0 where it is none.
 fn rounds_of(words: usize) -> usize
-    ensures { λ r. ⌜ r ≡ roundsOf words ⌝ }
+    ensures { λ r. ⌜ r ≡ scheduleSize words .rounds ⌝ }
 {
     match words {
         88 => 10,
         120 => 14,
-        _ => 0,
-    }
-}
-
-// The words of a schedule for a key of so many bytes, 10 rounds for 16 and 14 for 32; 0 where there is no such key.
-pub fn schedule_words(bytes: usize) -> usize
-    ensures { λ r. ⌜ r ≡ scheduleWords bytes ⌝ }
-{
-    match bytes {
-        16 => 88,
-        32 => 120,
         _ => 0,
     }
 }

@@ -1,98 +1,85 @@
-// The public calls at 32 bits. Each tests its own lengths, in the order of their numbers, and has no precondition.
+// The public calls at 32 bits: batches of two blocks. Each tests its own lengths, in the order of their numbers, and has no precondition.
+ghost use Rattle.lanes.specs.Layout.{w32 as w};
+use cipher::w32 as batches;
+use schedule::w32 as schedules;
+
+type Word = u32;
+
+// The bytes of a full batch.
+const BATCH: usize = 32;
+
+// ---- the same at both widths
 ghost use mathlib.Core.Path.{_≡_};
-ghost use Prim.Native.Nat.{_+_, _*_, _%_};
-ghost use lib.ListN.{length, replicate};
-ghost use Rattle.lanes.specs.Layout.{w32};
-ghost use Rattle.lanes.specs.Schedule.{encryptedBatch};
-ghost use Rattle.aes.specs.Outcome.{answers, expandOutcome, encryptOutcome, decryptOutcome, checkOutcome};
+ghost use Rattle.outcome.specs.Outcome.{answers};
+ghost use Rattle.calls.specs.Calls.{expandOutcome, encryptOutcome, decryptOutcome, checkOutcome};
+use super::KeySize;
+use super::key_size;
+use super::rounds_of;
 
 // Expands a key into its schedule.
-pub fn expand(key: &[u8], schedule: &mut [u32]) -> u32
-    ensures { λ r. ⌜ answers r (now (schedule .exit)) ≡ expandOutcome w32 (now (key .entry)) (now (schedule .entry)) ⌝ }
+pub fn expand(key: &[u8], schedule: &mut [Word]) -> u32
+    ensures { λ r. ⌜ answers r (now (schedule .exit)) ≡ expandOutcome w (now (key .entry)) (now (schedule .entry)) ⌝ }
 {
-    let words = super::schedule_words(key.len());
-    if words == 0 { // expand
-        return 1; // expand: not a key
+    let KeySize::Of(_, words) = key_size(key.len()) else {
+        return 1;
+    };
+    if schedule.len() != words {
+        return 2;
     }
-    if schedule.len() != words { // expand
-        return 2; // expand: not this key's schedule
-    }
-    if words == 88 {
-        schedule::w32::key_schedule_128(key, schedule);
-        return 0;
-    }
-    schedule::w32::key_schedule_256(key, schedule);
-    0 // expanded
+    schedules::key_schedule(key, schedule);
+    0
 }
 
-// Encrypts one full batch of 32 bytes.
-pub fn encrypt(schedule: &[u32], input: &[u8], output: &mut [u8]) -> u32
-    ensures { λ r. ⌜ answers r (now (output .exit)) ≡ encryptOutcome w32 (now (schedule .entry)) (now (input .entry)) (now (output .entry)) ⌝ }
+// Encrypts one full batch.
+pub fn encrypt(schedule: &[Word], input: &[u8], output: &mut [u8]) -> u32
+    ensures { λ r. ⌜ answers r (now (output .exit)) ≡ encryptOutcome w (now (schedule .entry)) (now (input .entry)) (now (output .entry)) ⌝ }
 {
-    let n = super::rounds_of(schedule.len());
+    let n = rounds_of(schedule.len());
     if n == 0 {
-        return 2; // encrypt: not a schedule
+        return 2; // encrypt
     }
-    if input.len() != 32 { // encrypt
-        return 3; // encrypt: not one full batch in
+    if input.len() != BATCH {
+        return 3; // encrypt
     }
-    if output.len() != 32 { // encrypt
-        return 4; // encrypt: no room for one full batch
+    if output.len() != BATCH {
+        return 4; // encrypt
     }
-    cipher::w32::encrypt(schedule, n, input, output);
+    batches::encrypt(schedule, n, input, output);
     0 // encrypted
 }
 
-// Decrypts one full batch of 32 bytes.
-pub fn decrypt(schedule: &[u32], input: &[u8], output: &mut [u8]) -> u32
-    ensures { λ r. ⌜ answers r (now (output .exit)) ≡ decryptOutcome w32 (now (schedule .entry)) (now (input .entry)) (now (output .entry)) ⌝ }
+// Decrypts one full batch.
+pub fn decrypt(schedule: &[Word], input: &[u8], output: &mut [u8]) -> u32
+    ensures { λ r. ⌜ answers r (now (output .exit)) ≡ decryptOutcome w (now (schedule .entry)) (now (input .entry)) (now (output .entry)) ⌝ }
 {
-    let n = super::rounds_of(schedule.len());
+    let n = rounds_of(schedule.len());
     if n == 0 {
-        return 2; // decrypt: not a schedule
+        return 2; // decrypt
     }
-    if input.len() != 32 { // decrypt
-        return 3; // decrypt: not one full batch in
+    if input.len() != BATCH {
+        return 3; // decrypt
     }
-    if output.len() != 32 { // decrypt
-        return 4; // decrypt: no room for one full batch
+    if output.len() != BATCH {
+        return 4; // decrypt
     }
-    cipher::w32::decrypt(schedule, n, input, output);
+    batches::decrypt(schedule, n, input, output);
     0 // decrypted
 }
 
-// A batch of zero bytes. A call, so that a goal says its result and not 32 zeros.
-fn zeros() -> [u8; 32]
-    ensures { λ r. ⌜ r ≡ replicate 32 0 ⌝ }
-{
-    [0u8; 32]
-}
-
-// The encryption of a batch of zero bytes with n rounds.
-fn encrypted_zeros(schedule: &[u32], n: usize) -> [u8; 32]
-    requires { ⌜ (8 * n + 8 ≡ length (now schedule)) × (n % 4 ≡ 2) ⌝ }
-    ensures { λ r. ⌜ r ≡ encryptedBatch w32 n (now (schedule .entry)) (replicate 32 0) ⌝ }
-{
-    let input = zeros();
-    let mut output = zeros();
-    cipher::w32::encrypt(schedule, n, &input, &mut output);
-    output
-}
-
 // The key check value: the first three bytes of the encryption, in slot 0, of sixteen zero bytes.
-pub fn check_value(schedule: &[u32], output: &mut [u8]) -> u32
-    ensures { λ r. ⌜ answers r (now (output .exit)) ≡ checkOutcome w32 (now (schedule .entry)) (now (output .entry)) ⌝ }
+pub fn check_value(schedule: &[Word], output: &mut [u8]) -> u32
+    ensures { λ r. ⌜ answers r (now (output .exit)) ≡ checkOutcome w (now (schedule .entry)) (now (output .entry)) ⌝ }
 {
-    let n = super::rounds_of(schedule.len());
-    if n == 0 { // check
-        return 2; // check: not a schedule
+    let n = rounds_of(schedule.len());
+    if n == 0 {
+        return 2; // check
     }
-    if output.len() != 3 { // check
-        return 4; // check: not three bytes
+    if output.len() != 3 {
+        return 4; // check
     }
-    let batch = encrypted_zeros(schedule, n);
-    output[0] = batch[0];
-    output[1] = batch[1];
-    output[2] = batch[2];
+    let block = batches::encrypt_block(schedule, n, [0u8; 16]);
+    output[0] = block[0];
+    output[1] = block[1];
+    output[2] = block[2];
     0 // checked
 }

@@ -1,3 +1,5 @@
 pub mod Argument
+pub mod Arrangements
 pub mod Batches
-pub mod Steps
+mod Steps
+mod OneBatch

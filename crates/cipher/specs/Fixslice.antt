@@ -1,42 +1,51 @@
 -- The fixsliced rounds on a block, as the code does them: no ShiftRows, round r has MixColumns form r mod 4, the S-box lacks its 63.
 -- k r is round key r as it stands in the schedule. proofs/Argument.antt says what they are in FIPS-197.
+use mathlib.Core.Path.{_≡_}
 use mathlib.Core.List.{List}
-use Prim.Native.Nat.{ℕ, zero, suc, _+_, _-_, _%_}
+use Prim.Native.Nat.{ℕ, zero, suc, _+_, _*_, _%_, _≤_}
 use Rattle.fips197.specs.Aes.{addRoundKey}
-use Rattle.lanes.specs.Layout.{Width}
+use Rattle.lanes.specs.Layout.{Width, slots}
 use Rattle.lanes.specs.Schedule.{stored}
-use Rattle.lanes.specs.Leaves.{bareSubBytes, invBareSubBytes, rowsShifted, rowsUnshifted, mixForm, invMixForm}
+use Rattle.lanes.specs.Leaves.{bareSubBytes, invBareSubBytes, mixForm, invMixForm}
 
+-- ---- what is asked of a call
+-- s words are a schedule for n rounds: n + 1 round keys of eight words each. The rounds go by twos.
+pub record Scheduled (n s : ℕ) : Type 0 where
+  pub words : s ≡ 8 * n + 8
+  pub even : n % 2 ≡ 0
+  pub some : 2 ≤ n
+
+-- and i bytes in and o bytes out are a full batch each
+pub record Ready (w : Width) (n s i o : ℕ) : Type 0 where
+  pub schedule : Scheduled n s
+  pub input : i ≡ 16 * slots w
+  pub output : o ≡ 16 * slots w
+
+-- ---- rounds
 -- one round of form i
 abbrev pub fixRound : ℕ → List ℕ → List ℕ → List ℕ
 fixRound i k x = addRoundKey (mixForm i (bareSubBytes x)) k
 
--- n rounds, from number r on
-unfoldable pub roundsFrom : (ℕ → List ℕ) → ℕ → ℕ → List ℕ → List ℕ
-roundsFrom k r zero x = x
-roundsFrom k r (suc n) x = fixRound ((r + n) % 4) (k (r + n)) (roundsFrom k r n x)
-
--- all n rounds: the row shifts that were left out are made up for before the last S-box
-unfoldable pub fixCipher : (ℕ → List ℕ) → ℕ → List ℕ → List ℕ
-fixCipher k n x = addRoundKey (bareSubBytes (rowsShifted (n % 4) (roundsFrom k 1 (n - 1) (addRoundKey x (k 0))))) (k n)
+-- rounds 1 to n
+unfoldable pub roundsTo : (ℕ → List ℕ) → ℕ → List ℕ → List ℕ
+roundsTo k zero x = x
+roundsTo k (suc n) x = fixRound (suc n % 4) (k (suc n)) (roundsTo k n x)
 
 -- one round of form i undone
 abbrev pub fixUnround : ℕ → List ℕ → List ℕ → List ℕ
 fixUnround i k x = invBareSubBytes (invMixForm i (addRoundKey x k))
 
--- n rounds undone, the highest first, down to number r
-unfoldable pub undoneTo : (ℕ → List ℕ) → ℕ → ℕ → List ℕ → List ℕ
-undoneTo k r zero x = x
-undoneTo k r (suc n) x = undoneTo k r n (fixUnround ((r + n) % 4) (k (r + n)) x)
+-- rounds n to 1 undone
+unfoldable pub undoneFrom : (ℕ → List ℕ) → ℕ → List ℕ → List ℕ
+undoneFrom k zero x = x
+undoneFrom k (suc n) x = undoneFrom k n (fixUnround (suc n % 4) (k (suc n)) x)
 
--- all n rounds undone
-unfoldable pub fixInvCipher : (ℕ → List ℕ) → ℕ → List ℕ → List ℕ
-fixInvCipher k n x = addRoundKey (undoneTo k 1 (n - 1) (rowsUnshifted (n % 4) (invBareSubBytes (addRoundKey x (k n))))) (k 0)
+-- ---- the same in each slot of a schedule l
+abbrev pub addKeyIn : Width → List ℕ → ℕ → ℕ → List ℕ → List ℕ
+addKeyIn w l r b x = addRoundKey x (stored w l b r)
 
--- ---- in each slot of a schedule l
--- n rounds from number r on, and n rounds undone down to number r
-abbrev pub roundsIn : Width → List ℕ → ℕ → ℕ → ℕ → List ℕ → List ℕ
-roundsIn w l r n b x = roundsFrom (stored w l b) r n x
+abbrev pub roundsIn : Width → List ℕ → ℕ → ℕ → List ℕ → List ℕ
+roundsIn w l n b x = roundsTo (stored w l b) n x
 
-abbrev pub undoneIn : Width → List ℕ → ℕ → ℕ → ℕ → List ℕ → List ℕ
-undoneIn w l r n b x = undoneTo (stored w l b) r n x
+abbrev pub undoneIn : Width → List ℕ → ℕ → ℕ → List ℕ → List ℕ
+undoneIn w l n b x = undoneFrom (stored w l b) n x

@@ -1,2 +1,1 @@
 pub mod Fixslice
-pub mod Batch

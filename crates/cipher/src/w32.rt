@@ -1,14 +1,13 @@
-// A full batch of two blocks in words of 32 bits, with any schedule: 88 or 120 words, read as docs/SCOPE.md says.
-ghost use mathlib.Core.Path.{_≡_};
-ghost use Prim.Native.Nat.{_+_, _-_, _*_, _%_, _≤_};
-ghost use lib.ListN.{length};
-ghost use Rattle.lanes.specs.Layout.{w32, Does};
-ghost use Rattle.lanes.specs.Schedule.{encryptedBatch, decryptedBatch};
-ghost use Rattle.cipher.specs.Fixslice.{roundsIn, undoneIn};
-use mix_columns::w32::inv_mix_columns;
+// A full batch of two blocks in words of 32 bits, under any words as a schedule: they are read as docs/SCOPE.md says.
+ghost use Rattle.lanes.specs.Layout.{w32 as w};
+use mix_columns::w32::inv_mix_columns_0;
 use mix_columns::w32::inv_mix_columns_1;
-use mix_columns::w32::mix_columns;
+use mix_columns::w32::inv_mix_columns_2;
+use mix_columns::w32::inv_mix_columns_3;
+use mix_columns::w32::mix_columns_0;
 use mix_columns::w32::mix_columns_1;
+use mix_columns::w32::mix_columns_2;
+use mix_columns::w32::mix_columns_3;
 use sbox::w32::inv_sub_bytes;
 use sbox::w32::sub_bytes;
 use utils::w32::add_round_key;
@@ -17,97 +16,171 @@ use utils::w32::shift_rows_2;
 use word::w32::bitslice;
 use word::w32::inv_bitslice;
 
-// Three rounds, from number `from` on: round r has form r modulo 4 (the ShiftRows is completely omitted).
-// They are a loop of their own because clang inlines the S-box only where it is called in a loop within a loop (docs/SPEED.md).
-fn three_rounds(first: [u32; 8], rkeys: &[u32], from: usize) -> [u32; 8]
-    requires { ⌜ 8 * from + 24 ≤ length (now rkeys) ⌝ }
-    ensures { λ r. ⌜ Does w32 (roundsIn w32 (now (rkeys .entry)) from 3) first r ⌝ }
+type Word = u32;
+
+// The bytes of a full batch.
+const BATCH: usize = 32;
+
+// ---- the same at both widths
+ghost use mathlib.Core.Path.{_≡_};
+ghost use Prim.Native.Nat.{_+_, _-_, _*_, _%_, _≤_};
+ghost use lib.ListN.{length};
+ghost use Rattle.fips197.specs.Aes.{cipher};
+ghost use Rattle.lanes.specs.Schedule.{rowsShifted, rowsUnshifted, reading, encryptedBatch, decryptedBatch};
+ghost use Rattle.lanes.specs.Leaves.{Does, all};
+ghost use Rattle.cipher.specs.Fixslice.{Scheduled, Ready, addKeyIn, roundsIn, undoneIn};
+
+// XORs round key r, the eight words that start at offset 8r of the schedule, into the state.
+fn add_key(state: [Word; 8], rkeys: &[Word], r: usize) -> [Word; 8]
+    requires { ⌜ 8 * r + 8 ≤ length (now rkeys) ⌝ }
+    ensures { λ x. ⌜ Does w (addKeyIn w (now (rkeys .entry)) r) state x ⌝ }
 {
-    let mut state = first;
-    for i in 0..3 {
-        let r = from + i;
-        state = add_round_key(
-            mix_columns(sub_bytes(state), r % 4),
-            &rkeys[8 * r..8 * r + 8],
-        );
-    }
-    state
+    add_round_key(state, &rkeys[8 * r..8 * r + 8])
 }
 
-// Rounds 1 to n - 1, four forms to a turn. The loop is left from its middle, before the key at offset 80 or 112.
-fn rounds(first: [u32; 8], rkeys: &[u32], n: usize) -> [u32; 8]
-    requires { ⌜ (n % 4 ≡ 2) × (8 * n + 8 ≡ length (now rkeys)) ⌝ }
-    ensures { λ r. ⌜ Does w32 (roundsIn w32 (now (rkeys .entry)) 1 (n - 1)) first r ⌝ }
+// Rounds 1 to n - 1, four forms to a turn: ShiftRows is left out, and form i of MixColumns accounts for i of them. The loop is left from its
+// middle, with the state before the key at offset 8n: after form 1 or, where n is a multiple of four, after form 3.
+fn rounds(first: [Word; 8], rkeys: &[Word], n: usize) -> [Word; 8]
+    requires { ⌜ Scheduled n (length (now rkeys)) ⌝ }
+    ensures { λ r. ⌜ Does w (roundsIn w (now (rkeys .entry)) (n - 1)) first r ⌝ }
 {
     let mut state = first;
     let mut r: usize = 1;
     loop {
-        let s1 = add_round_key(mix_columns_1(sub_bytes(state)), &rkeys[8 * r..8 * r + 8]);
+        let s1 = add_key(mix_columns_1(sub_bytes(state)), rkeys, r);
         r += 1;
         if r == n {
             break s1;
         }
-        let s4 = three_rounds(s1, rkeys, r);
+        let s2 = add_key(mix_columns_2(sub_bytes(s1)), rkeys, r);
+        r += 1;
+        let s3 = add_key(mix_columns_3(sub_bytes(s2)), rkeys, r);
+        r += 1;
+        if r == n {
+            break s3;
+        }
+        let s4 = add_key(mix_columns_0(sub_bytes(s3)), rkeys, r);
+        r += 1;
         state = s4;
-        r += 3;
     }
 }
 
-// Encrypts a full batch with n rounds.
-pub fn encrypt(schedule: &[u32], n: usize, input: &[u8], output: &mut [u8])
-    requires { ⌜ (8 * n + 8 ≡ length (now schedule)) × (n % 4 ≡ 2) × (length (now input) ≡ 32) × (length (now output) ≡ 32) ⌝ }
-    ensures { λ r. ⌜ now (output .exit) ≡ encryptedBatch w32 n (now (schedule .entry)) (now (input .entry)) ⌝ }
+// ShiftRows n times, n being even: what the rounds left out.
+fn shift_rows(state: [Word; 8], n: usize) -> [Word; 8]
+    requires { ⌜ n % 2 ≡ 0 ⌝ }
+    ensures { λ r. ⌜ Does w (all (rowsShifted (n % 4))) state r ⌝ }
 {
-    let last = 8 * n;
-    let s0 = add_round_key(bitslice(input), &schedule[0..8]);
-    let s1 = rounds(s0, schedule, n);
-    let s2 = shift_rows_2(s1);
-    let s3 = add_round_key(sub_bytes(s2), &schedule[last..last + 8]);
-    inv_bitslice(s3, output);
-}
-
-// Three rounds undone, down to number `from`.
-fn three_unrounds(first: [u32; 8], rkeys: &[u32], from: usize) -> [u32; 8]
-    requires { ⌜ 8 * from + 24 ≤ length (now rkeys) ⌝ }
-    ensures { λ r. ⌜ Does w32 (undoneIn w32 (now (rkeys .entry)) from 3) first r ⌝ }
-{
-    let mut state = first;
-    for i in 0..3 {
-        let r = from + 2 - i;
-        state = inv_sub_bytes(inv_mix_columns(
-            add_round_key(state, &rkeys[8 * r..8 * r + 8]),
-            r % 4,
-        ));
+    if n % 4 == 2 {
+        return shift_rows_2(state);
     }
     state
 }
 
-// Rounds n - 1 to 1 undone, the forms in the opposite order.
-fn unrounds(first: [u32; 8], rkeys: &[u32], n: usize) -> [u32; 8]
-    requires { ⌜ (n % 4 ≡ 2) × (8 * n + 8 ≡ length (now rkeys)) ⌝ }
-    ensures { λ r. ⌜ Does w32 (undoneIn w32 (now (rkeys .entry)) 1 (n - 1)) first r ⌝ }
+// Encrypts a full batch with n rounds.
+fn encrypt_batch(schedule: &[Word], n: usize, input: &[u8], output: &mut [u8])
+    requires { ⌜ Ready w n (length (now schedule)) (length (now input)) (length (now output)) ⌝ }
+    ensures { λ r. ⌜ now (output .exit) ≡ encryptedBatch w n (now (schedule .entry)) (now (input .entry)) ⌝ }
+{
+    let s0 = add_key(bitslice(input), schedule, 0);
+    let s1 = rounds(s0, schedule, n);
+    let s2 = shift_rows(s1, n);
+    let s3 = add_key(sub_bytes(s2), schedule, n);
+    inv_bitslice(s3, output);
+}
+
+// Each batch of the input, of which a call has one: in a loop round the round loop clang inlines the S-box (docs/SPEED.md).
+pub fn encrypt(schedule: &[Word], n: usize, input: &[u8], output: &mut [u8])
+    requires { ⌜ Ready w n (length (now schedule)) (length (now input)) (length (now output)) ⌝ }
+    ensures { λ r. ⌜ now (output .exit) ≡ encryptedBatch w n (now (schedule .entry)) (now (input .entry)) ⌝ }
+{
+    for i in 0..input.len() / BATCH {
+        let at = BATCH * i;
+        encrypt_batch(
+            schedule,
+            n,
+            &input[at..at + BATCH],
+            &mut output[at..at + BATCH],
+        );
+    }
+}
+
+// Rounds n - 1 to 1 undone, the forms in the opposite order. The loop is entered at form 1 or, where n is a multiple of four, at form 3.
+fn unrounds(first: [Word; 8], rkeys: &[Word], n: usize) -> [Word; 8]
+    requires { ⌜ Scheduled n (length (now rkeys)) ⌝ }
+    ensures { λ r. ⌜ Does w (undoneIn w (now (rkeys .entry)) (n - 1)) first r ⌝ }
 {
     let mut state = first;
     let mut r: usize = n - 1;
     loop {
-        let t1 = inv_sub_bytes(inv_mix_columns_1(add_round_key(state, &rkeys[8 * r..8 * r + 8])));
-        if r == 1 {
+        if r % 4 == 3 {
+            let t3 = inv_sub_bytes(inv_mix_columns_3(add_key(state, rkeys, r)));
+            r -= 1;
+            let t2 = inv_sub_bytes(inv_mix_columns_2(add_key(t3, rkeys, r)));
+            r -= 1;
+            state = t2;
+        }
+        let t1 = inv_sub_bytes(inv_mix_columns_1(add_key(state, rkeys, r)));
+        r -= 1;
+        if r == 0 {
             break t1;
         }
-        r -= 4;
-        let t4 = three_unrounds(t1, rkeys, r + 1);
-        state = t4;
+        let t0 = inv_sub_bytes(inv_mix_columns_0(add_key(t1, rkeys, r)));
+        r -= 1;
+        state = t0;
     }
 }
 
-// Decrypts a full batch with n rounds: the mirror of encryption.
-pub fn decrypt(schedule: &[u32], n: usize, input: &[u8], output: &mut [u8])
-    requires { ⌜ (8 * n + 8 ≡ length (now schedule)) × (n % 4 ≡ 2) × (length (now input) ≡ 32) × (length (now output) ≡ 32) ⌝ }
-    ensures { λ r. ⌜ now (output .exit) ≡ decryptedBatch w32 n (now (schedule .entry)) (now (input .entry)) ⌝ }
+// InvShiftRows n times, n being even.
+fn inv_shift_rows(state: [Word; 8], n: usize) -> [Word; 8]
+    requires { ⌜ n % 2 ≡ 0 ⌝ }
+    ensures { λ r. ⌜ Does w (all (rowsUnshifted (n % 4))) state r ⌝ }
 {
-    let last = 8 * n;
-    let s0 = inv_sub_bytes(add_round_key(bitslice(input), &schedule[last..last + 8]));
-    let s1 = unrounds(inv_shift_rows_2(s0), schedule, n);
-    let s2 = add_round_key(s1, &schedule[0..8]);
+    if n % 4 == 2 {
+        return inv_shift_rows_2(state);
+    }
+    state
+}
+
+// Decrypts a full batch with n rounds: the mirror of encryption.
+fn decrypt_batch(schedule: &[Word], n: usize, input: &[u8], output: &mut [u8])
+    requires { ⌜ Ready w n (length (now schedule)) (length (now input)) (length (now output)) ⌝ }
+    ensures { λ r. ⌜ now (output .exit) ≡ decryptedBatch w n (now (schedule .entry)) (now (input .entry)) ⌝ }
+{
+    let s0 = inv_sub_bytes(add_key(bitslice(input), schedule, n));
+    let s1 = unrounds(inv_shift_rows(s0, n), schedule, n);
+    let s2 = add_key(s1, schedule, 0);
     inv_bitslice(s2, output);
+}
+
+// Each batch of the input, as `encrypt`.
+pub fn decrypt(schedule: &[Word], n: usize, input: &[u8], output: &mut [u8])
+    requires { ⌜ Ready w n (length (now schedule)) (length (now input)) (length (now output)) ⌝ }
+    ensures { λ r. ⌜ now (output .exit) ≡ decryptedBatch w n (now (schedule .entry)) (now (input .entry)) ⌝ }
+{
+    for i in 0..input.len() / BATCH {
+        let at = BATCH * i;
+        decrypt_batch(
+            schedule,
+            n,
+            &input[at..at + BATCH],
+            &mut output[at..at + BATCH],
+        );
+    }
+}
+
+// A batch of zero bytes. A call, so that a goal says its result and not every byte.
+fn zeros() -> [u8; BATCH] {
+    [0u8; BATCH]
+}
+
+// One block under the round keys of slot 0.
+pub fn encrypt_block(schedule: &[Word], n: usize, block: [u8; 16]) -> [u8; 16]
+    requires { ⌜ Scheduled n (length (now schedule)) ⌝ }
+    ensures { λ r. ⌜ r ≡ cipher (reading w n (now (schedule .entry)) 0) block ⌝ }
+{
+    let mut input = zeros();
+    let mut output = zeros();
+    super::store16(&mut input[0..16], block);
+    encrypt(schedule, n, &input, &mut output);
+    super::load16(&output[0..16])
 }

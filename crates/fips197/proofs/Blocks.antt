@@ -3,13 +3,15 @@ use mathlib.Core.Path.{_≡_, refl, ap, _∙_}
 use mathlib.Core.List.{List, [], _∷_, _++_, map}
 use Prim.Native.Nat.{ℕ, zero, suc, _+_, _-_, _*_, _/_, _%_, _^_, _≤_, _<_}
 use native.Mathlib.Omega.{arith}
-use mathlib.Core.Bool.{Bool, true, false}
-use lib.Dec.{T, ltb, ltb→lt}
+use mathlib.Core.Bool.{Bool, true, false, _&&_, cond}
+use lib.Dec.{T, eqb, ltb, ltb→lt}
 use lib.Pow.{pow-pos}
 use lib.Bits.{bitXor, xor-lt}
 use lib.ListN.{getD, take, drop, length, length-map}
 use lib.Seq.{take-all, drop-cons}
-use Rattle.fips197.specs.Aes.{bit, both, choose, range, Fit, Block, block, cell, xtime, productTo, product, addIf, sbox, invSbox, subBytes, invSubBytes, shiftRows, invShiftRows, mixColumns, invMixColumns, addRoundKey}
+use Rattle.fips197.specs.Bytes.{Fit, Block}
+use Rattle.fips197.specs.Aes.{bit, range, block, cell, xtime, bitsOf, sumWhere, product, sbox, invSbox, subBytes, invSubBytes}
+use Rattle.fips197.specs.Aes.{shiftRows, invShiftRows, mixColumns, invMixColumns, addRoundKey}
 use Rattle.fips197.proofs.Bits.{bit-lt}
 use Rattle.fips197.proofs.Linear.{both-left, both-right}
 use Rattle.fips197.proofs.Tables.{sbox-lt, invSbox-lt}
@@ -48,16 +50,18 @@ fit-tail f = record { at = λ p. f .at (suc p) }
 -- by a computed test
 abbrev pub allBelow : ℕ → List ℕ → Bool
 allBelow n [] = true
-allBelow n (x ∷ xs) = both (ltb x n) (allBelow n xs)
+allBelow n (x ∷ xs) = _&&_ (ltb x n) (allBelow n xs)
 
 -- what holds of both choices
-pub chosen : (P : List ℕ → Type 0) (t : Bool) {v u : List ℕ} → P v → P u → P (choose t v u)
+pub chosen : (P : List ℕ → Type 0) (t : Bool) {v u : List ℕ} → P v → P u → P (cond t v u)
 chosen P true p q = p
 chosen P false p q = q
 
 pub fit-test : (W : ℕ) (l : List ℕ) → T (allBelow (2 ^ W) l) → Fit W l
 fit-test W [] t = fit-nil W
-fit-test W (x ∷ xs) t = fit-cons x (ltb→lt x (2 ^ W) (both-left (ltb x (2 ^ W)) (allBelow (2 ^ W) xs) t)) (fit-test W xs (both-right (ltb x (2 ^ W)) (allBelow (2 ^ W) xs) t))
+fit-test W (x ∷ xs) t =
+    fit-cons x (ltb→lt x (2 ^ W) (both-left (ltb x (2 ^ W)) (allBelow (2 ^ W) xs) t))
+    (fit-test W xs (both-right (ltb x (2 ^ W)) (allBelow (2 ^ W) xs) t))
 
 pub fit-append : {W : ℕ} {xs ys : List ℕ} → Fit W xs → Fit W ys → Fit W (xs ++ ys)
 fit-append {W} {xs} {ys} f g = go xs f
@@ -98,16 +102,15 @@ xtime-lt x =
 
 pub product-lt : (c x : ℕ) → x < 2 ^ 8 → product c x < 2 ^ 8
 unfolding product
-product-lt c x h = go 8 c x h
+product-lt c x h = go (bitsOf 8 c) x h
   where
-    add : (b x y : ℕ) → x < 2 ^ 8 → y < 2 ^ 8 → addIf b x y < 2 ^ 8
-    add zero x y h k = k
-    add (suc b) x y h k = xor-lt 8 x y h k
+    term : (t : Bool) {x : ℕ} → x < 2 ^ 8 → cond t x 0 < 2 ^ 8
+    term true h = h
+    term false h = pow-pos 8
 
-    go : (n c x : ℕ) → x < 2 ^ 8 → productTo n c x < 2 ^ 8
-    go zero c x h = pow-pos 8
-    go (suc n) zero x h = pow-pos 8
-    go (suc n) (suc c) x h = add (suc c % 2) x (productTo n (suc c / 2) (xtime x)) h (go n (suc c / 2) (xtime x) (xtime-lt x))
+    go : (bs : List ℕ) (x : ℕ) → x < 2 ^ 8 → sumWhere bs x < 2 ^ 8
+    go [] x h = pow-pos 8
+    go (b ∷ bs) x h = xor-lt 8 (cond (eqb b 1) x 0) (sumWhere bs (xtime x)) (term (eqb b 1) h) (go bs (xtime x) (xtime-lt x))
 
 -- ---- blocks stay blocks
 block-block : (f : ℕ → ℕ → ℕ) → ((r c : ℕ) → f r c < 2 ^ 8) → Block (block f)

@@ -1,7 +1,8 @@
 -- Cases P5 to P8, computed. Assumes nothing.
 use mathlib.Core.Path.{refl}
 use Rattle.fips197.specs.Cases.{P5, P6, P7, P8}
-use Rattle.fips197.specs.Aes.{xtime, product, inverse, affine, sbox, mixColumns, rotWord, subWord, addWord, roundConstants, rcon, keyTemp, moreWords, keyWords, keyExpansion}
+use Rattle.fips197.specs.Aes.{xtime, product, inverse, affine, sbox, mixColumns, rotWord, subWord, addWord, roundConstants, rcon}
+use Rattle.fips197.specs.Aes.{keyTemp, moreWords, keyWords, keyExpansion}
 
 pub p5 : P5
 unfolding sbox affine inverse product xtime

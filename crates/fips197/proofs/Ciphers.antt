@@ -1,8 +1,10 @@
--- InvCipher undoes Cipher and Cipher undoes InvCipher, for every list of round keys; so Cipher is one-to-one and onto. Assumes nothing.
+-- InvCipher undoes Cipher and Cipher undoes InvCipher, for every list of round keys; so Cipher is one-to-one. Assumes nothing.
 use mathlib.Core.Path.{_≡_, refl, sym, ap, _∙_}
 use mathlib.Core.List.{List, [], _∷_}
 use Prim.Native.Nat.{ℕ}
-use Rattle.fips197.specs.Aes.{Block, subBytes, invSubBytes, shiftRows, invShiftRows, mixColumns, invMixColumns, addRoundKey, rounds, cipher, invRounds, invCipher}
+use Rattle.fips197.specs.Bytes.{Block}
+use Rattle.fips197.specs.Aes.{subBytes, invSubBytes, shiftRows, invShiftRows, mixColumns, invMixColumns, addRoundKey, rounds, cipher}
+use Rattle.fips197.specs.Aes.{invRounds, invCipher}
 use Rattle.fips197.proofs.Blocks.{sub-block, invSub-block, shift-block, invShift-block, mix-block, invMix-block, add-block}
 use Rattle.fips197.proofs.Laws.{invSub-sub, sub-invSub, invShift-shift, shift-invShift, invMix-mix, mix-invMix, add-add}
 
@@ -46,7 +48,9 @@ module _ {s k : List ℕ} (b : Block s) (d : Block k) where
   round-undone = rw (add-add (mix-block (shift-block (sub-block b))) d, invMix-mix (shift-block (sub-block b)), invShift-shift (sub-block b)) (invSub-sub b)
 
   round-redone : addRoundKey (mixColumns (shiftRows (subBytes (invSubBytes (invShiftRows (invMixColumns (addRoundKey s k))))))) k ≡ s
-  round-redone = rw (sub-invSub (invShift-block (invMix-block (add-block b d))), shift-invShift (invMix-block (add-block b d)), mix-invMix (add-block b d)) (add-add b d)
+  round-redone =
+      let added = add-block b d in
+      rw (sub-invSub (invShift-block (invMix-block added)), shift-invShift (invMix-block added), mix-invMix added) (add-add b d)
 
 -- ---- all rounds, and back
 invRounds-rounds : {ks : List (List ℕ)} {s : List ℕ} → Blocks ks → Block s → invRounds ks (rounds ks s) ≡ s
@@ -77,7 +81,3 @@ cipher-invCipher (more {ks = xs} k ks) b = ap (rounds xs) (add-add (invRounds-bl
 -- one-to-one
 pub cipher-one : {ks : List (List ℕ)} {s t : List ℕ} → Blocks ks → Block s → Block t → cipher ks s ≡ cipher ks t → s ≡ t
 cipher-one {ks} ds b d e = sym (invCipher-cipher ds b) ∙ ap (invCipher ks) e ∙ invCipher-cipher ds d
-
--- onto
-pub cipher-onto : {ks : List (List ℕ)} {t : List ℕ} → Blocks ks → Block t → (s : List ℕ) × Block s × (cipher ks s ≡ t)
-cipher-onto {ks} {t} ds d = (invCipher ks t, invCipher-block ds d, cipher-invCipher ds d)

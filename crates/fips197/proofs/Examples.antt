@@ -2,13 +2,15 @@
 use mathlib.Core.Path.{_≡_, refl}
 use mathlib.Core.List.{List, [], _∷_}
 use Prim.Native.Nat.{ℕ}
-use Rattle.fips197.specs.Aes.{range, xtime, product, inverse, affine, sbox, invAffine, invSbox, subBytes, invSubBytes, shiftRows, invShiftRows, mixColumns, invMixColumns, addRoundKey, rotWord, subWord, addWord, roundConstants, rcon, keyTemp, moreWords, keyWords, keyExpansion, rounds, cipher, invRounds, invCipher}
+use Rattle.fips197.specs.Aes.{range, xtime, product, inverse, affine, sbox, invAffine, invSbox, subBytes, invSubBytes, shiftRows}
+use Rattle.fips197.specs.Aes.{invShiftRows, mixColumns, invMixColumns, addRoundKey, rotWord, subWord, addWord, roundConstants, rcon}
+use Rattle.fips197.specs.Aes.{keyTemp, moreWords, keyWords, keyExpansion, rounds, cipher, invRounds, invCipher}
 
 -- appendix A.1: the round keys of a 128-bit key
-keyA1 : List ℕ
+unfoldable pub keyA1 : List ℕ
 keyA1 = 0x2b ∷ 0x7e ∷ 0x15 ∷ 0x16 ∷ 0x28 ∷ 0xae ∷ 0xd2 ∷ 0xa6 ∷ 0xab ∷ 0xf7 ∷ 0x15 ∷ 0x88 ∷ 0x09 ∷ 0xcf ∷ 0x4f ∷ 0x3c ∷ []
 
-roundKeysA1 : List (List ℕ)
+unfoldable pub roundKeysA1 : List (List ℕ)
 roundKeysA1 =
     (0x2b ∷ 0x7e ∷ 0x15 ∷ 0x16 ∷ 0x28 ∷ 0xae ∷ 0xd2 ∷ 0xa6 ∷ 0xab ∷ 0xf7 ∷ 0x15 ∷ 0x88 ∷ 0x09 ∷ 0xcf ∷ 0x4f ∷ 0x3c ∷ []) ∷
     (0xa0 ∷ 0xfa ∷ 0xfe ∷ 0x17 ∷ 0x88 ∷ 0x54 ∷ 0x2c ∷ 0xb1 ∷ 0x23 ∷ 0xa3 ∷ 0x39 ∷ 0x39 ∷ 0x2a ∷ 0x6c ∷ 0x76 ∷ 0x05 ∷ []) ∷
@@ -23,13 +25,15 @@ roundKeysA1 =
     (0xd0 ∷ 0x14 ∷ 0xf9 ∷ 0xa8 ∷ 0xc9 ∷ 0xee ∷ 0x25 ∷ 0x89 ∷ 0xe1 ∷ 0x3f ∷ 0x0c ∷ 0xc8 ∷ 0xb6 ∷ 0x63 ∷ 0x0c ∷ 0xa6 ∷ []) ∷
     []
 
-expansion-A1 : keyExpansion 4 keyA1 ≡ roundKeysA1
+pub expansion-A1 : keyExpansion 4 keyA1 ≡ roundKeysA1
 unfolding keyA1 roundKeysA1 xtime product inverse affine sbox rotWord subWord addWord roundConstants rcon keyTemp moreWords keyWords keyExpansion
 expansion-A1 = refl
 
 -- appendix A.2: the round keys of a 192-bit key
 keyA2 : List ℕ
-keyA2 = 0x8e ∷ 0x73 ∷ 0xb0 ∷ 0xf7 ∷ 0xda ∷ 0x0e ∷ 0x64 ∷ 0x52 ∷ 0xc8 ∷ 0x10 ∷ 0xf3 ∷ 0x2b ∷ 0x80 ∷ 0x90 ∷ 0x79 ∷ 0xe5 ∷ 0x62 ∷ 0xf8 ∷ 0xea ∷ 0xd2 ∷ 0x52 ∷ 0x2c ∷ 0x6b ∷ 0x7b ∷ []
+keyA2 =
+    0x8e ∷ 0x73 ∷ 0xb0 ∷ 0xf7 ∷ 0xda ∷ 0x0e ∷ 0x64 ∷ 0x52 ∷ 0xc8 ∷ 0x10 ∷ 0xf3 ∷ 0x2b ∷ 0x80 ∷ 0x90 ∷ 0x79 ∷ 0xe5 ∷
+    0x62 ∷ 0xf8 ∷ 0xea ∷ 0xd2 ∷ 0x52 ∷ 0x2c ∷ 0x6b ∷ 0x7b ∷ []
 
 roundKeysA2 : List (List ℕ)
 roundKeysA2 =
@@ -53,10 +57,12 @@ unfolding keyA2 roundKeysA2 xtime product inverse affine sbox rotWord subWord ad
 expansion-A2 = refl
 
 -- appendix A.3: the round keys of a 256-bit key
-keyA3 : List ℕ
-keyA3 = 0x60 ∷ 0x3d ∷ 0xeb ∷ 0x10 ∷ 0x15 ∷ 0xca ∷ 0x71 ∷ 0xbe ∷ 0x2b ∷ 0x73 ∷ 0xae ∷ 0xf0 ∷ 0x85 ∷ 0x7d ∷ 0x77 ∷ 0x81 ∷ 0x1f ∷ 0x35 ∷ 0x2c ∷ 0x07 ∷ 0x3b ∷ 0x61 ∷ 0x08 ∷ 0xd7 ∷ 0x2d ∷ 0x98 ∷ 0x10 ∷ 0xa3 ∷ 0x09 ∷ 0x14 ∷ 0xdf ∷ 0xf4 ∷ []
+unfoldable pub keyA3 : List ℕ
+keyA3 =
+    0x60 ∷ 0x3d ∷ 0xeb ∷ 0x10 ∷ 0x15 ∷ 0xca ∷ 0x71 ∷ 0xbe ∷ 0x2b ∷ 0x73 ∷ 0xae ∷ 0xf0 ∷ 0x85 ∷ 0x7d ∷ 0x77 ∷ 0x81 ∷
+    0x1f ∷ 0x35 ∷ 0x2c ∷ 0x07 ∷ 0x3b ∷ 0x61 ∷ 0x08 ∷ 0xd7 ∷ 0x2d ∷ 0x98 ∷ 0x10 ∷ 0xa3 ∷ 0x09 ∷ 0x14 ∷ 0xdf ∷ 0xf4 ∷ []
 
-roundKeysA3 : List (List ℕ)
+unfoldable pub roundKeysA3 : List (List ℕ)
 roundKeysA3 =
     (0x60 ∷ 0x3d ∷ 0xeb ∷ 0x10 ∷ 0x15 ∷ 0xca ∷ 0x71 ∷ 0xbe ∷ 0x2b ∷ 0x73 ∷ 0xae ∷ 0xf0 ∷ 0x85 ∷ 0x7d ∷ 0x77 ∷ 0x81 ∷ []) ∷
     (0x1f ∷ 0x35 ∷ 0x2c ∷ 0x07 ∷ 0x3b ∷ 0x61 ∷ 0x08 ∷ 0xd7 ∷ 0x2d ∷ 0x98 ∷ 0x10 ∷ 0xa3 ∷ 0x09 ∷ 0x14 ∷ 0xdf ∷ 0xf4 ∷ []) ∷
@@ -75,7 +81,7 @@ roundKeysA3 =
     (0xfe ∷ 0x48 ∷ 0x90 ∷ 0xd1 ∷ 0xe6 ∷ 0x18 ∷ 0x8d ∷ 0x0b ∷ 0x04 ∷ 0x6d ∷ 0xf3 ∷ 0x44 ∷ 0x70 ∷ 0x6c ∷ 0x63 ∷ 0x1e ∷ []) ∷
     []
 
-expansion-A3 : keyExpansion 8 keyA3 ≡ roundKeysA3
+pub expansion-A3 : keyExpansion 8 keyA3 ≡ roundKeysA3
 unfolding keyA3 roundKeysA3 xtime product inverse affine sbox rotWord subWord addWord roundConstants rcon keyTemp moreWords keyWords keyExpansion
 expansion-A3 = refl
 
@@ -88,11 +94,13 @@ output-4 : List ℕ
 output-4 = 0x69 ∷ 0xc4 ∷ 0xe0 ∷ 0xd8 ∷ 0x6a ∷ 0x7b ∷ 0x04 ∷ 0x30 ∷ 0xd8 ∷ 0xcd ∷ 0xb7 ∷ 0x80 ∷ 0x70 ∷ 0xb4 ∷ 0xc5 ∷ 0x5a ∷ []
 
 cipher-4 : cipher (keyExpansion 4 (range 0 16)) plain ≡ output-4
-unfolding plain output-4 xtime product inverse affine sbox rotWord subWord addWord roundConstants rcon keyTemp moreWords keyWords keyExpansion subBytes shiftRows mixColumns addRoundKey rounds cipher
+unfolding xtime product inverse affine sbox rotWord subWord addWord roundConstants rcon keyTemp moreWords keyWords keyExpansion
+    plain output-4 subBytes shiftRows mixColumns addRoundKey rounds cipher
 cipher-4 = refl
 
 invCipher-4 : invCipher (keyExpansion 4 (range 0 16)) output-4 ≡ plain
-unfolding plain output-4 xtime product inverse affine sbox rotWord subWord addWord roundConstants rcon keyTemp moreWords keyWords keyExpansion invAffine invSbox invSubBytes invShiftRows invMixColumns addRoundKey invRounds invCipher
+unfolding xtime product inverse affine sbox rotWord subWord addWord roundConstants rcon keyTemp moreWords keyWords keyExpansion
+    plain output-4 invAffine invSbox invSubBytes invShiftRows invMixColumns addRoundKey invRounds invCipher
 invCipher-4 = refl
 
 -- appendix C.2
@@ -100,7 +108,8 @@ output-6 : List ℕ
 output-6 = 0xdd ∷ 0xa9 ∷ 0x7c ∷ 0xa4 ∷ 0x86 ∷ 0x4c ∷ 0xdf ∷ 0xe0 ∷ 0x6e ∷ 0xaf ∷ 0x70 ∷ 0xa0 ∷ 0xec ∷ 0x0d ∷ 0x71 ∷ 0x91 ∷ []
 
 cipher-6 : cipher (keyExpansion 6 (range 0 24)) plain ≡ output-6
-unfolding plain output-6 xtime product inverse affine sbox rotWord subWord addWord roundConstants rcon keyTemp moreWords keyWords keyExpansion subBytes shiftRows mixColumns addRoundKey rounds cipher
+unfolding xtime product inverse affine sbox rotWord subWord addWord roundConstants rcon keyTemp moreWords keyWords keyExpansion
+    plain output-6 subBytes shiftRows mixColumns addRoundKey rounds cipher
 cipher-6 = refl
 
 -- appendix C.3
@@ -108,5 +117,6 @@ output-8 : List ℕ
 output-8 = 0x8e ∷ 0xa2 ∷ 0xb7 ∷ 0xca ∷ 0x51 ∷ 0x67 ∷ 0x45 ∷ 0xbf ∷ 0xea ∷ 0xfc ∷ 0x49 ∷ 0x90 ∷ 0x4b ∷ 0x49 ∷ 0x60 ∷ 0x89 ∷ []
 
 cipher-8 : cipher (keyExpansion 8 (range 0 32)) plain ≡ output-8
-unfolding plain output-8 xtime product inverse affine sbox rotWord subWord addWord roundConstants rcon keyTemp moreWords keyWords keyExpansion subBytes shiftRows mixColumns addRoundKey rounds cipher
+unfolding xtime product inverse affine sbox rotWord subWord addWord roundConstants rcon keyTemp moreWords keyWords keyExpansion
+    plain output-8 subBytes shiftRows mixColumns addRoundKey rounds cipher
 cipher-8 = refl

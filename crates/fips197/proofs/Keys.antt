@@ -1,5 +1,6 @@
 -- KeyExpansion: the standard's rule for each word, the round keys' lengths and bytes, and the key read back. Assumes nothing.
 use mathlib.Core.Path.{_≡_, refl, sym, ap, ap₂, _∙_}
+use mathlib.Core.Bool.{_&&_}
 use mathlib.Core.List.{List, [], _∷_, _++_, map}
 use Prim.Native.Nat.{ℕ, zero, suc, _+_, _-_, _*_, _/_, _%_, _^_, _≤_, _<_}
 use native.Mathlib.Omega.{arith}
@@ -9,7 +10,9 @@ use lib.Bits.{bitXor, xor-lt}
 use lib.Dec.{eqb, ltb}
 use lib.ListN.{getD, take, drop, length, length-append, length-drop}
 use lib.Seq.{take-append-le, drop-append-le, take-at, drop-at, take-take, take-add, length-take-le, take-all}
-use Rattle.fips197.specs.Aes.{range, Fit, Block, sbox, both, wordOf, sixteen, rotWord, subWord, addWord, roundConstants, rcon, keyTemp, moreWords, roundsFor, keyWords, keyExpansion}
+use Rattle.fips197.specs.Bytes.{Fit, Block}
+use Rattle.fips197.specs.Aes.{range, sbox, wordOf, sixteen, rotWord, subWord, addWord, roundConstants, rcon, keyTemp, moreWords}
+use Rattle.fips197.specs.Aes.{roundsFor, keyWords, keyExpansion}
 use Rattle.fips197.proofs.Tables.{sbox-lt}
 use Rattle.fips197.proofs.Blocks.{chosen, fit-nil, fit-cons, fit-test, fit-append, fit-drop, fit-take}
 use Rattle.fips197.proofs.Ciphers.{Blocks, none, more}
@@ -34,12 +37,17 @@ module _ (nk : ℕ) where
   abbrev pub ruled : List ℕ → ℕ → List ℕ
   ruled ws i = addWord (wordOf ws (i - nk)) (keyTemp nk i (wordOf ws (i - 1)))
 
+  ruled-length : (ws : List ℕ) (i : ℕ) → length (ruled ws i) ≡ 4
+  ruled-length ws i = add-length (wordOf ws (i - nk)) (keyTemp nk i (wordOf ws (i - 1)))
+
+  longer : (i : ℕ) (ws : List ℕ) → length ws ≡ 4 * i → length (ws ++ ruled ws i) ≡ 4 * suc i
+  longer i ws e = length-append ws (ruled ws i) ∙ rw (e, ruled-length ws i) (omega arith)
+
   pub more-length : (n i : ℕ) (ws : List ℕ) → length ws ≡ 4 * i → length (moreWords nk n i ws) ≡ 4 * (i + n)
   unfolding moreWords
   more-length zero i ws e = rw (add-zero i) e
   more-length (suc n) i ws e =
-      more-length n (suc i) (ws ++ ruled ws i) (length-append ws (ruled ws i) ∙ rw (e, add-length (wordOf ws (i - nk)) (keyTemp nk i (wordOf ws (i - 1)))) (omega arith))
-      ∙ omega arith
+      more-length n (suc i) (ws ++ ruled ws i) (longer i ws e) ∙ omega arith
 
   pub more-keeps : (n i : ℕ) (ws : List ℕ) → (rest : List ℕ) × (moreWords nk n i ws ≡ ws ++ rest)
   unfolding moreWords
@@ -62,18 +70,19 @@ module _ (nk : ℕ) where
       ws′ = ws ++ ruled ws i
 
       long : length ws′ ≡ 4 * suc i
-      long = length-append ws (ruled ws i) ∙ rw (e, add-length (wordOf ws (i - nk)) (keyTemp nk i (wordOf ws (i - 1)))) (omega arith)
+      long = longer i ws e
 
       -- the words that the rule reads are among those so far
       old : (k : ℕ) → k < i → wordOf (moreWords nk n (suc i) ws′) k ≡ wordOf ws k
       old k q = more-word n (suc i) ws′ k long (omega arith) ∙ word-prefix ws (ruled ws i) k (omega arith)
 
-      pick : (i < j → wordOf (moreWords nk n (suc i) ws′) j ≡ ruled (moreWords nk n (suc i) ws′) j) → Dec (i < j) → wordOf (moreWords nk n (suc i) ws′) j ≡ ruled (moreWords nk n (suc i) ws′) j
+      pick : (i < j → wordOf (moreWords nk n (suc i) ws′) j ≡ ruled (moreWords nk n (suc i) ws′) j)
+          → Dec (i < j) → wordOf (moreWords nk n (suc i) ws′) j ≡ ruled (moreWords nk n (suc i) ws′) j
       pick rest (yes q) = rest q
       pick rest (no q) =
           let f : j ≡ i = omega arith in
           rw f (more-word n (suc i) ws′ i long (omega arith)
-          ∙ word-next ws (ruled ws i) i e (add-length (wordOf ws (i - nk)) (keyTemp nk i (wordOf ws (i - 1))))
+          ∙ word-next ws (ruled ws i) i e (ruled-length ws i)
           ∙ ap₂ (λ (v w : List ℕ). addWord v (keyTemp nk i w)) (sym (old (i - nk) (omega arith))) (sym (old (i - 1) (omega arith))))
 
 -- ---- KeyExpansion
@@ -102,14 +111,6 @@ range-at f d (suc n) i (suc k) h = let e : suc i + k ≡ i + suc k = omega arith
 pub key-at : (nk : ℕ) (key : List ℕ) (r : ℕ) → r < roundsFor nk + 1 → getD (keyExpansion nk key) r [] ≡ sixteen (keyWords nk key) r
 unfolding keyExpansion
 key-at nk key r h = range-at (sixteen (keyWords nk key)) [] (roundsFor nk + 1) 0 r h ∙ ap (sixteen (keyWords nk key)) (zero-add r)
-
-pub expansion-length : (nk : ℕ) (key : List ℕ) → length (keyExpansion nk key) ≡ roundsFor nk + 1
-unfolding keyExpansion
-expansion-length nk key = lib.ListN.length-map (range 0 (roundsFor nk + 1)) (sixteen (keyWords nk key)) ∙ range-length 0 (roundsFor nk + 1)
-  where
-    range-length : (i n : ℕ) → length (range i n) ≡ n
-    range-length i zero = refl
-    range-length i (suc n) = ap suc (range-length (suc i) n)
 
 -- the key read back from the first two round keys
 pub key-back : (nk : ℕ) (key : List ℕ) → 1 ≤ nk → nk ≤ 8 → length key ≡ 4 * nk
@@ -149,7 +150,7 @@ temp-fits : (nk i : ℕ) (w : List ℕ) → Fit 8 w → Fit 8 (keyTemp nk i w)
 unfolding keyTemp
 temp-fits nk i w f =
     chosen (Fit 8) (eqb (i % nk) 0) (add-word-fits (subWord (rotWord w)) (rcon (i / nk)) (sub-word-fits (rotWord w) (rot-word-fits w f)) (rcon-fits (i / nk)))
-    (chosen (Fit 8) (both (ltb 6 nk) (eqb (i % nk) 4)) (sub-word-fits w f) f)
+    (chosen (Fit 8) (_&&_ (ltb 6 nk) (eqb (i % nk) 4)) (sub-word-fits w f) f)
 
 more-fits : (nk n i : ℕ) (ws : List ℕ) → Fit 8 ws → Fit 8 (moreWords nk n i ws)
 unfolding moreWords

@@ -1,10 +1,12 @@
--- The transformations: what undoes what, what commutes, and what distributes. Each linear law is one computed test. Assumes nothing.
+-- The transformations: what undoes what, and what commutes. Each linear law is one computed test. Assumes nothing.
 use mathlib.Core.Path.{_≡_, refl, ap, ap₂, _∙_}
 use mathlib.Core.List.{List, [], _∷_, _++_, map}
-use Prim.Native.Nat.{ℕ, _+_, _-_, _*_, _^_, _≤_, _<_}
+use Prim.Native.Nat.{ℕ, _+_, _*_, _^_, _<_}
 use lib.Dec.{T, lit≤}
 use lib.ListN.{getD}
-use Rattle.fips197.specs.Aes.{Fit, Block, block, xtime, product, sbox, invSbox, subBytes, invSubBytes, shiftRows, invShiftRows, mixColumns, invMixColumns, addRoundKey}
+use Rattle.fips197.specs.Bytes.{Fit, Block}
+use Rattle.fips197.specs.Aes.{xtime, product, sbox, invSbox, subBytes, invSubBytes, shiftRows, invShiftRows, mixColumns}
+use Rattle.fips197.specs.Aes.{invMixColumns, addRoundKey}
 use Rattle.fips197.proofs.Linear.{Related, numbers, valueOf, inputs, same, agree}
 use Rattle.fips197.proofs.Layers.{Bytes, related8, blockOf, mixColumnsOf, invMixColumnsOf, addRoundKeyOf}
 use Rattle.fips197.proofs.Tables.{invSbox-sbox, sbox-invSbox}
@@ -61,11 +63,7 @@ module _ {s : List ℕ} (b : Block s) where
   unfolding subBytes shiftRows
   sub-shift = ap (λ (l : List ℕ). shiftRows (map sbox l)) (block-is b)
 
-  pub invSub-invShift : invSubBytes (invShiftRows s) ≡ invShiftRows (invSubBytes s)
-  unfolding invSubBytes invShiftRows
-  invSub-invShift = ap (λ (l : List ℕ). invShiftRows (map invSbox l)) (block-is b)
-
--- ---- what distributes over the sum. The two blocks stand one after the other, sixteen and sixteen
+-- ---- the sum of two blocks, which stand one after the other, sixteen and sixteen
 abbrev pub front : {A : Type 0} → Bytes A → List A → List A
 front o l = blockOf o (λ r c. getD l (r + 4 * c) (o .null))
 
@@ -80,28 +78,7 @@ module _ {s t : List ℕ} (b : Block s) (d : Block t) where
   unfolding pair
   pair-fits = fit-append (fit-reads 0 16 (b .bytes)) (fit-reads 0 16 (d .bytes))
 
-  pub mix-add : mixColumns (addRoundKey s t) ≡ addRoundKey (mixColumns s) (mixColumns t)
-  unfolding mixColumns addRoundKey product xtime pair
-  mix-add = layers 32 (λ A o l. mixColumnsOf o (addRoundKeyOf o (front o l) (back o l))) (λ A o l. addRoundKeyOf o (mixColumnsOf o (front o l)) (mixColumnsOf o (back o l))) pair pair-fits tt
-
-  pub invMix-add : invMixColumns (addRoundKey s t) ≡ addRoundKey (invMixColumns s) (invMixColumns t)
-  unfolding invMixColumns addRoundKey product xtime pair
-  invMix-add = layers 32 (λ A o l. invMixColumnsOf o (addRoundKeyOf o (front o l) (back o l))) (λ A o l. addRoundKeyOf o (invMixColumnsOf o (front o l)) (invMixColumnsOf o (back o l))) pair pair-fits tt
-
-  pub shift-add : shiftRows (addRoundKey s t) ≡ addRoundKey (shiftRows s) (shiftRows t)
-  unfolding shiftRows addRoundKey
-  shift-add = refl
-
-  pub invShift-add : invShiftRows (addRoundKey s t) ≡ addRoundKey (invShiftRows s) (invShiftRows t)
-  unfolding invShiftRows addRoundKey
-  invShift-add = refl
-
   -- a round key added twice is nothing
   pub add-add : addRoundKey (addRoundKey s t) t ≡ s
   unfolding addRoundKey pair
   add-add = layers 32 (λ A o l. addRoundKeyOf o (addRoundKeyOf o (front o l) (back o l)) (back o l)) (λ A o l. front o l) pair pair-fits tt ∙ block-is b
-
--- MixColumns leaves columns of equal bytes as they are: xs has the byte of each column
-pub mix-equal : (xs : List ℕ) → Fit 8 xs → mixColumns (block (λ r c. getD xs c 0)) ≡ block (λ r c. getD xs c 0)
-unfolding mixColumns product xtime
-mix-equal xs fit = layers 4 (λ A o l. mixColumnsOf o (blockOf o (λ r c. getD l c (o .null)))) (λ A o l. blockOf o (λ r c. getD l c (o .null))) xs fit tt

@@ -1,12 +1,14 @@
 -- The linear transformations written once over any bytes, so that they run on numbers (and are FIPS-197's, by computation) and on
 -- `Related` ones; a law between two of them is then one computed test. Assumes nothing.
 use mathlib.Core.Path.{_≡_, refl}
-use mathlib.Core.List.{List, map}
-use Prim.Native.Nat.{ℕ, zero, suc, _+_, _-_, _*_, _/_, _%_}
+use mathlib.Core.Bool.{cond}
+use mathlib.Core.List.{List, [], _∷_, map}
+use Prim.Native.Nat.{ℕ, _+_, _-_, _*_, _/_, _%_}
 use lib.Bits.{bitXor}
+use lib.Dec.{eqb}
 use lib.ListN.{getD}
-use Rattle.fips197.specs.Aes.{range, xtime, product, shiftRows, invShiftRows, mixColumns, invMixColumns, addRoundKey}
-use Rattle.fips197.proofs.Linear.{Related, numbers, valueOf, xorR, constR, nullR, xtimeR}
+use Rattle.fips197.specs.Aes.{range, bitsOf, xtime, product, shiftRows, invShiftRows, mixColumns, invMixColumns, addRoundKey}
+use Rattle.fips197.proofs.Linear.{Related, valueOf, xorR, constR, nullR, xtimeR}
 
 -- what the layers ask of bytes: {00}, a constant, the sum, and the product with {02}
 pub record Bytes (A : Type 0) : Type 0 where
@@ -19,17 +21,12 @@ abbrev pub numbers8 : Bytes ℕ
 numbers8 = record { null = 0; byte = λ c. c; xor = λ x y. bitXor x y; xtime = λ x. xtime x }
 
 module _ {A : Type 0} (o : Bytes A) where
-  abbrev addIfOf : ℕ → A → A → A
-  addIfOf zero x y = y
-  addIfOf (suc b) x y = o .xor x y
-
-  abbrev productToOf : ℕ → ℕ → A → A
-  productToOf zero c x = o .null
-  productToOf (suc n) zero x = o .null
-  productToOf (suc n) (suc c) x = addIfOf (suc c % 2) x (productToOf n (suc c / 2) (o .xtime x))
+  abbrev sumWhereOf : List ℕ → A → A
+  sumWhereOf [] x = o .null
+  sumWhereOf (b ∷ bs) x = o .xor (cond (eqb b 1) x (o .null)) (sumWhereOf bs (o .xtime x))
 
   abbrev pub productOf : ℕ → A → A
-  productOf c x = productToOf 8 c x
+  productOf c x = sumWhereOf (bitsOf 8 c) x
 
   abbrev pub cellOf : List A → ℕ → ℕ → A
   cellOf s r c = getD s (r % 4 + 4 * (c % 4)) (o .null)

@@ -8,4 +8,4 @@ pub mod Laws
 pub mod Ciphers
 pub mod Keys
 pub mod Cases
-mod Examples
+pub mod Examples

@@ -3,8 +3,8 @@
 -- equal (`agree`). Assumes nothing.
 use mathlib.Core.Path.{_≡_, refl, sym, ap, ap₂, _∙_}
 use mathlib.Core.List.{List, [], _∷_, map}
-use mathlib.Core.Bool.{Bool, true, false}
-use Prim.Native.Nat.{ℕ, zero, suc, _+_, _-_, _*_, _/_, _%_, _^_, _≤_, _<_, zero-le}
+use mathlib.Core.Bool.{Bool, true, false, _&&_}
+use Prim.Native.Nat.{ℕ, zero, suc, _+_, _*_, _/_, _%_, _^_, _≤_, _<_, zero-le}
 use native.Mathlib.Nat.{mul-one, zero-mul, one-mul, zero-lt-suc, mod-lt, pow-suc, not-suc-le-zero, le-of-suc-le-suc, add-zero, suc-add, add-suc}
 use native.Mathlib.Omega.{arith}
 use native.Mathlib.Decide.{decLt}
@@ -14,14 +14,15 @@ use lib.Pow.{pow-pos}
 use lib.Bits.{bitXor, bitAnd, bitOr, xor-comm, xor-self, xor-zero-r, or-zero-r, and-zero-r, xor-lt, shifted-half, shifted-even}
 use lib.ListN.{getD, take, drop, length-take, List·getD-eq-default}
 use lib.Seq.{getD-take, getD-drop}
-use Rattle.fips197.specs.Aes.{bit, both, Fit}
+use Rattle.fips197.specs.Bytes.{Fit}
+use Rattle.fips197.specs.Aes.{bit}
 use Rattle.fips197.proofs.Bits.{bit-lt, xor-bit, and-bit, or-bit, bit-shr, bit-suc, bit-zero, bits-ext, bit-low, bit-above, bit-cases, xor-assoc}
 
-pub both-left : (a b : Bool) → T (both a b) → T a
+pub both-left : (a b : Bool) → T (_&&_ a b) → T a
 both-left true b t = tt
 both-left false b t = t
 
-pub both-right : (a b : Bool) → T (both a b) → T b
+pub both-right : (a b : Bool) → T (_&&_ a b) → T b
 both-right true b t = t
 both-right false b t = absurd t
 
@@ -57,7 +58,7 @@ apart (n ∷ x) (m ∷ y) = false
 abbrev allApart : List Sum → List Sum → Bool
 allApart [] ys = true
 allApart (x ∷ xs) [] = true
-allApart (x ∷ xs) (y ∷ ys) = both (apart x y) (allApart xs ys)
+allApart (x ∷ xs) (y ∷ ys) = _&&_ (apart x y) (allApart xs ys)
 
 abbrev keep : ℕ → Sum → Sum
 keep zero x = []
@@ -89,7 +90,7 @@ pub record Related (ρ : ℕ → ℕ) : Type 0 where
 module _ (ρ : ℕ → ℕ) where
   abbrev pub allOk : List (Related ρ) → Bool
   allOk [] = true
-  allOk (x ∷ xs) = both (x .sym .ok) (allOk xs)
+  allOk (x ∷ xs) = _&&_ (x .sym .ok) (allOk xs)
 
   abbrev pub numbers : List (Related ρ) → List ℕ
   numbers xs = map (λ x. x .word) xs
@@ -118,18 +119,19 @@ module _ (ws : List ℕ) where
   den-lt [] = zero-lt-suc 1
   den-lt (x ∷ xs) = xor-lt 1 ((valueOf ws) x) (den (valueOf ws) xs) (valueOf-lt ws x) (den-lt xs)
 
-  choose : (t : ℕ) (e : Bool) (a b : Sum) → (T e → den (valueOf ws) a ≡ t) → den (valueOf ws) b ≡ t → den (valueOf ws) (elim e [ true ↦ a | false ↦ b ]) ≡ t
-  choose t true a b p q = p tt
-  choose t false a b p q = q
+  cond : (t : ℕ) (e : Bool) (a b : Sum) → (T e → den (valueOf ws) a ≡ t) → den (valueOf ws) b ≡ t → den (valueOf ws) (elim e [ true ↦ a | false ↦ b ]) ≡ t
+  cond t true a b p q = p tt
+  cond t false a b p q = q
 
   insert-den : (x : ℕ) (xs : Sum) (rest : Sum → Sum) → ((zs : Sum) → den (valueOf ws) (rest zs) ≡ bitXor (den (valueOf ws) xs) (den (valueOf ws) zs))
       → (ys : Sum) → den (valueOf ws) (insert x xs rest ys) ≡ bitXor (den (valueOf ws) (x ∷ xs)) (den (valueOf ws) ys)
   insert-den x xs rest h [] = sym (xor-zero-r (bitXor ((valueOf ws) x) (den (valueOf ws) xs)))
   insert-den x xs rest h (y ∷ ys) =
-      choose (bitXor (den (valueOf ws) (x ∷ xs)) (den (valueOf ws) (y ∷ ys))) (eqb x y) (rest ys)
+      cond (bitXor (den (valueOf ws) (x ∷ xs)) (den (valueOf ws) (y ∷ ys))) (eqb x y) (rest ys)
       (elim (ltb x y) [ true ↦ x ∷ rest (y ∷ ys) | false ↦ y ∷ insert x xs rest ys ])
-      (λ t. h ys ∙ cancel ((valueOf ws) x) (den (valueOf ws) xs) (den (valueOf ws) ys) ∙ ap (λ (z : ℕ). bitXor (den (valueOf ws) (x ∷ xs)) (bitXor ((valueOf ws) z) (den (valueOf ws) ys))) (eqb→eq x y t))
-      (choose (bitXor (den (valueOf ws) (x ∷ xs)) (den (valueOf ws) (y ∷ ys))) (ltb x y) (x ∷ rest (y ∷ ys)) (y ∷ insert x xs rest ys)
+      (λ t. h ys ∙ cancel ((valueOf ws) x) (den (valueOf ws) xs) (den (valueOf ws) ys)
+      ∙ ap (λ (z : ℕ). bitXor (den (valueOf ws) (x ∷ xs)) (bitXor ((valueOf ws) z) (den (valueOf ws) ys))) (eqb→eq x y t))
+      (cond (bitXor (den (valueOf ws) (x ∷ xs)) (den (valueOf ws) (y ∷ ys))) (ltb x y) (x ∷ rest (y ∷ ys)) (y ∷ insert x xs rest ys)
       (λ t. ap (bitXor ((valueOf ws) x)) (h (y ∷ ys)) ∙ sym (xor-assoc ((valueOf ws) x) (den (valueOf ws) xs) (den (valueOf ws) (y ∷ ys))))
       (ap (bitXor ((valueOf ws) y)) (insert-den x xs rest h ys) ∙ xor-swap (den (valueOf ws) (x ∷ xs)) ((valueOf ws) y) (den (valueOf ws) ys)))
 
@@ -138,7 +140,8 @@ module _ (ws : List ℕ) where
   add-den (x ∷ xs) y = insert-den x xs (add xs) (add-den xs) y
 
   -- ---- the operations, bit by bit
-  pub xor-at : (xs ys : List Sum) (k : ℕ) → den (valueOf ws) (getD (xorSums xs ys) k []) ≡ bitXor (den (valueOf ws) (getD xs k [])) (den (valueOf ws) (getD ys k []))
+  pub xor-at : (xs ys : List Sum) (k : ℕ)
+      → den (valueOf ws) (getD (xorSums xs ys) k []) ≡ bitXor (den (valueOf ws) (getD xs k [])) (den (valueOf ws) (getD ys k []))
   xor-at [] ys k = refl
   xor-at (x ∷ xs) [] k = sym (xor-zero-r (den (valueOf ws) (getD (x ∷ xs) k [])))
   xor-at (x ∷ xs) (y ∷ ys) zero = add-den x y
@@ -149,7 +152,8 @@ module _ (ws : List ℕ) where
   apart-den (n ∷ x) [] t = sym (or-zero-r (den (valueOf ws) (n ∷ x)))
   apart-den (n ∷ x) (m ∷ y) t = absurd t
 
-  pub or-at : (xs ys : List Sum) (k : ℕ) → T (allApart xs ys) → den (valueOf ws) (getD (xorSums xs ys) k []) ≡ bitOr (den (valueOf ws) (getD xs k [])) (den (valueOf ws) (getD ys k []))
+  pub or-at : (xs ys : List Sum) (k : ℕ) → T (allApart xs ys)
+      → den (valueOf ws) (getD (xorSums xs ys) k []) ≡ bitOr (den (valueOf ws) (getD xs k [])) (den (valueOf ws) (getD ys k []))
   or-at [] ys k t = refl
   or-at (x ∷ xs) [] k t = sym (or-zero-r (den (valueOf ws) (getD (x ∷ xs) k [])))
   or-at (x ∷ xs) (y ∷ ys) zero t = apart-den x y (both-left (apart x y) (allApart xs ys) t)
@@ -165,13 +169,15 @@ module _ (ws : List ℕ) where
   mask-at (x ∷ xs) m zero = keep-den x (m % 2) (mod-lt m (zero-lt-suc 1)) ∙ ap (bitAnd (den (valueOf ws) x)) (sym (bit-zero m))
   mask-at (x ∷ xs) m (suc k) = mask-at xs (m / 2) k ∙ ap (bitAnd (den (valueOf ws) (getD xs k []))) (sym (bit-suc k m))
 
-  pub shl-at : (x : ℕ) (xs : List Sum) → ((k : ℕ) → bit k x ≡ den (valueOf ws) (getD xs k [])) → (n k : ℕ) → bit k (x * 2 ^ n) ≡ den (valueOf ws) (getD (shlSums n xs) k [])
+  pub shl-at : (x : ℕ) (xs : List Sum) → ((k : ℕ) → bit k x ≡ den (valueOf ws) (getD xs k []))
+      → (n k : ℕ) → bit k (x * 2 ^ n) ≡ den (valueOf ws) (getD (shlSums n xs) k [])
   shl-at x xs h zero k = ap (bit k) (mul-one x) ∙ h k
   shl-at x xs h (suc n) zero = bit-zero (x * 2 ^ suc n) ∙ shifted-even x n
   shl-at x xs h (suc n) (suc k) = bit-suc k (x * 2 ^ suc n) ∙ ap (bit k) (shifted-half x n) ∙ shl-at x xs h n k
 
   -- the low W bits
-  pub low-at : (y W : ℕ) (xs : List Sum) → ((k : ℕ) → bit k y ≡ den (valueOf ws) (getD xs k [])) → (k : ℕ) → bit k (y % 2 ^ W) ≡ den (valueOf ws) (getD (take W xs) k [])
+  pub low-at : (y W : ℕ) (xs : List Sum) → ((k : ℕ) → bit k y ≡ den (valueOf ws) (getD xs k []))
+      → (k : ℕ) → bit k (y % 2 ^ W) ≡ den (valueOf ws) (getD (take W xs) k [])
   low-at y W xs h k = pick (decLt k W)
     where
       pick : Dec (k < W) → bit k (y % 2 ^ W) ≡ den (valueOf ws) (getD (take W xs) k [])
@@ -193,10 +199,13 @@ module _ (ws : List ℕ) where
   spread-one : (n m : ℕ) (x : Sum) → den (valueOf ws) x ≡ 1 → m < 2 ^ n → (k : ℕ) → bit k m ≡ den (valueOf ws) (getD (spreadSums n m x) k [])
   spread-one zero m x e h k = ap (bit k) (lt-one h) ∙ zero-bit k
   spread-one (suc n) m x e h zero =
-      bit-zero m ∙ sym (keep-den x (m % 2) (mod-lt m (zero-lt-suc 1)) ∙ ap (λ (v : ℕ). bitAnd v (m % 2)) e ∙ bit-cases (λ (d : ℕ). bitAnd 1 d ≡ d) refl refl (m % 2) (mod-lt m (zero-lt-suc 1)))
+      let low : m % 2 < 2 = mod-lt m (zero-lt-suc 1) in
+      bit-zero m
+      ∙ sym (keep-den x (m % 2) low ∙ ap (λ (v : ℕ). bitAnd v (m % 2)) e ∙ bit-cases (λ (d : ℕ). bitAnd 1 d ≡ d) refl refl (m % 2) low)
   spread-one (suc n) m x e h (suc k) = bit-suc k m ∙ spread-one n (m / 2) x e (omega (arith, h, pow-suc 2 n)) k
 
-  pub spread-at : (n m : ℕ) (x : Sum) (v : ℕ) → v < 2 → m < 2 ^ n → v ≡ den (valueOf ws) x → (k : ℕ) → bit k (v * m) ≡ den (valueOf ws) (getD (spreadSums n m x) k [])
+  pub spread-at : (n m : ℕ) (x : Sum) (v : ℕ) → v < 2 → m < 2 ^ n → v ≡ den (valueOf ws) x
+      → (k : ℕ) → bit k (v * m) ≡ den (valueOf ws) (getD (spreadSums n m x) k [])
   spread-at n m x v l h e k =
       bit-cases (λ (v : ℕ). v ≡ den (valueOf ws) x → bit k (v * m) ≡ den (valueOf ws) (getD (spreadSums n m x) k []))
       (λ e. ap (bit k) (zero-mul m) ∙ zero-bit k ∙ sym (spread-zero n m x (sym e) k))
@@ -206,7 +215,7 @@ module _ (ws : List ℕ) where
   abbrev pub xorR : Related (valueOf ws) → Related (valueOf ws) → Related (valueOf ws)
   xorR a b = record {
     word = bitXor (a .word) (b .word);
-    sym = record { ok = both (a .sym .ok) (b .sym .ok); sums = xorSums (a .sym .sums) (b .sym .sums) };
+    sym = record { ok = _&&_ (a .sym .ok) (b .sym .ok); sums = xorSums (a .sym .sums) (b .sym .sums) };
     holds = λ t k.
         xor-bit k (a .word) (b .word)
         ∙ ap₂ bitXor (a .holds (both-left (a .sym .ok) (b .sym .ok) t) k) (b .holds (both-right (a .sym .ok) (b .sym .ok) t) k)
@@ -216,12 +225,12 @@ module _ (ws : List ℕ) where
   abbrev pub orR : Related (valueOf ws) → Related (valueOf ws) → Related (valueOf ws)
   orR a b = record {
     word = bitOr (a .word) (b .word);
-    sym = record { ok = both (allApart (a .sym .sums) (b .sym .sums)) (both (a .sym .ok) (b .sym .ok)); sums = xorSums (a .sym .sums) (b .sym .sums) };
+    sym = record { ok = _&&_ (allApart (a .sym .sums) (b .sym .sums)) (_&&_ (a .sym .ok) (b .sym .ok)); sums = xorSums (a .sym .sums) (b .sym .sums) };
     holds = λ t k.
-        let u = both-right (allApart (a .sym .sums) (b .sym .sums)) (both (a .sym .ok) (b .sym .ok)) t in
+        let u = both-right (allApart (a .sym .sums) (b .sym .sums)) (_&&_ (a .sym .ok) (b .sym .ok)) t in
         or-bit k (a .word) (b .word)
         ∙ ap₂ bitOr (a .holds (both-left (a .sym .ok) (b .sym .ok) u) k) (b .holds (both-right (a .sym .ok) (b .sym .ok) u) k)
-        ∙ sym (or-at (a .sym .sums) (b .sym .sums) k (both-left (allApart (a .sym .sums) (b .sym .sums)) (both (a .sym .ok) (b .sym .ok)) t));
+        ∙ sym (or-at (a .sym .sums) (b .sym .sums) k (both-left (allApart (a .sym .sums) (b .sym .sums)) (_&&_ (a .sym .ok) (b .sym .ok)) t));
   }
 
   abbrev pub maskR : Related (valueOf ws) → ℕ → Related (valueOf ws)
@@ -269,7 +278,7 @@ module _ (ws : List ℕ) where
   abbrev pub bitTimesR : ℕ → ℕ → ℕ → Related (valueOf ws) → Related (valueOf ws)
   bitTimesR n q m a = record {
     word = bit q (a .word) * m;
-    sym = record { ok = both (ltb m (2 ^ n)) (a .sym .ok); sums = spreadSums n m (getD (a .sym .sums) q []) };
+    sym = record { ok = _&&_ (ltb m (2 ^ n)) (a .sym .ok); sums = spreadSums n m (getD (a .sym .sums) q []) };
     holds = λ t k.
         spread-at n m (getD (a .sym .sums) q []) (bit q (a .word)) (bit-lt q (a .word)) (ltb→lt m (2 ^ n) (both-left (ltb m (2 ^ n)) (a .sym .ok) t))
         (a .holds (both-right (ltb m (2 ^ n)) (a .sym .ok) t) q) k;
@@ -284,16 +293,16 @@ abbrev sameSum : Sum → Sum → Bool
 sameSum [] [] = true
 sameSum [] (y ∷ ys) = false
 sameSum (x ∷ xs) [] = false
-sameSum (x ∷ xs) (y ∷ ys) = both (eqb x y) (sameSum xs ys)
+sameSum (x ∷ xs) (y ∷ ys) = _&&_ (eqb x y) (sameSum xs ys)
 
 abbrev sameSums : List Sum → List Sum → Bool
 sameSums [] [] = true
 sameSums [] (y ∷ ys) = false
 sameSums (x ∷ xs) [] = false
-sameSums (x ∷ xs) (y ∷ ys) = both (sameSum x y) (sameSums xs ys)
+sameSums (x ∷ xs) (y ∷ ys) = _&&_ (sameSum x y) (sameSums xs ys)
 
 abbrev sameWord : Word → Word → Bool
-sameWord a b = both (a .ok) (both (b .ok) (sameSums (a .sums) (b .sums)))
+sameWord a b = _&&_ (a .ok) (_&&_ (b .ok) (sameSums (a .sums) (b .sums)))
 
 sum-eq : (x y : Sum) → T (sameSum x y) → x ≡ y
 sum-eq [] [] t = refl
@@ -312,23 +321,23 @@ module _ (ρ : ℕ → ℕ) where
   same [] [] = true
   same [] (y ∷ ys) = false
   same (x ∷ xs) [] = false
-  same (x ∷ xs) (y ∷ ys) = both (sameWord (x .sym) (y .sym)) (same xs ys)
+  same (x ∷ xs) (y ∷ ys) = _&&_ (sameWord (x .sym) (y .sym)) (same xs ys)
 
   abbrev pub sameLists : List (List (Related ρ)) → List (List (Related ρ)) → Bool
   sameLists [] [] = true
   sameLists [] (y ∷ ys) = false
   sameLists (x ∷ xs) [] = false
-  sameLists (x ∷ xs) (y ∷ ys) = both (same x y) (sameLists xs ys)
+  sameLists (x ∷ xs) (y ∷ ys) = _&&_ (same x y) (sameLists xs ys)
 
   -- numbers with the same sums are equal
   word-eq : (x y : Related ρ) → T (sameWord (x .sym) (y .sym)) → x .word ≡ y .word
   word-eq x y t = bits-ext (x .word) (y .word) (λ k. x .holds tx k ∙ ap (λ (l : List Sum). den ρ (getD l k [])) e ∙ sym (y .holds ty k))
     where
-      u : T (both (y .sym .ok) (sameSums (x .sym .sums) (y .sym .sums)))
-      u = both-right (x .sym .ok) (both (y .sym .ok) (sameSums (x .sym .sums) (y .sym .sums))) t
+      u : T (_&&_ (y .sym .ok) (sameSums (x .sym .sums) (y .sym .sums)))
+      u = both-right (x .sym .ok) (_&&_ (y .sym .ok) (sameSums (x .sym .sums) (y .sym .sums))) t
 
       tx : T (x .sym .ok)
-      tx = both-left (x .sym .ok) (both (y .sym .ok) (sameSums (x .sym .sums) (y .sym .sums))) t
+      tx = both-left (x .sym .ok) (_&&_ (y .sym .ok) (sameSums (x .sym .sums) (y .sym .sums))) t
 
       ty : T (y .sym .ok)
       ty = both-left (y .sym .ok) (sameSums (x .sym .sums) (y .sym .sums)) u

@@ -1,17 +1,17 @@
 -- A rule for every byte is one computed test over the numbers below 256. Assumes nothing.
 use mathlib.Core.Path.{_≡_, refl, sym, ap, _∙_, subst}
-use mathlib.Core.Bool.{Bool, true, false}
+use mathlib.Core.Bool.{Bool, true, false, _&&_}
 use mathlib.Core.Logic.{_⊎_, inl, inr}
 use Prim.Native.Nat.{ℕ, zero, suc, _^_, _<_}
 use native.Mathlib.Nat.{not-suc-le-zero, eq-or-lt-of-le, le-of-suc-le-suc}
 use lib.Dec.{T, eqb, ltb, eqb→eq, ltb→lt}
-use Rattle.fips197.specs.Aes.{both, xtime, product, inverse, affine, invAffine, sbox, invSbox}
+use Rattle.fips197.specs.Aes.{xtime, product, inverse, affine, invAffine, sbox, invSbox}
 use Rattle.fips197.proofs.Linear.{both-left, both-right}
 
 -- the test holds at each number below n
 abbrev pub below : (ℕ → Bool) → ℕ → Bool
 below f zero = true
-below f (suc n) = both (f n) (below f n)
+below f (suc n) = _&&_ (f n) (below f n)
 
 pub below-at : (f : ℕ → Bool) (n : ℕ) → T (below f n) → (x : ℕ) → x < n → T (f x)
 below-at f zero t x h = absurd (not-suc-le-zero h)
@@ -27,7 +27,7 @@ either true b = true
 either false b = b
 
 abbrev inverted : ℕ → ℕ → Bool
-inverted x y = both (ltb y 256) (both (eqb (inverse y) x) (either (eqb x 0) (eqb (product x y) 1)))
+inverted x y = _&&_ (ltb y 256) (_&&_ (eqb (inverse y) x) (either (eqb x 0) (eqb (product x y) 1)))
 
 all-inverted : T (below (λ x. let y = inverse x in inverted x y) 256)
 unfolding inverse product xtime
@@ -55,23 +55,30 @@ product-inverse x h n = go (eqb x 0) (eqb→eq x 0) (both-right (eqb (inverse (i
 
 -- ---- the affine map and its inverse
 abbrev mapped : ℕ → Bool
-mapped x = both (both (ltb (affine x) 256) (ltb (invAffine x) 256)) (both (eqb (invAffine (affine x)) x) (eqb (affine (invAffine x)) x))
+mapped x = _&&_ (_&&_ (ltb (affine x) 256) (ltb (invAffine x) 256)) (_&&_ (eqb (invAffine (affine x)) x) (eqb (affine (invAffine x)) x))
 
 all-mapped : T (below mapped 256)
 unfolding affine invAffine
 all-mapped = tt
 
-affine-lt : (x : ℕ) → x < 2 ^ 8 → affine x < 2 ^ 8
-affine-lt x h = ltb→lt (affine x) 256 (both-left (ltb (affine x) 256) _ (both-left (both (ltb (affine x) 256) (ltb (invAffine x) 256)) _ (below-at mapped 256 all-mapped x h)))
+module _ (x : ℕ) (h : x < 2 ^ 8) where
+  both-bytes : T (_&&_ (ltb (affine x) 256) (ltb (invAffine x) 256))
+  both-bytes = both-left (_&&_ (ltb (affine x) 256) (ltb (invAffine x) 256)) _ (below-at mapped 256 all-mapped x h)
 
-invAffine-lt : (x : ℕ) → x < 2 ^ 8 → invAffine x < 2 ^ 8
-invAffine-lt x h = ltb→lt (invAffine x) 256 (both-right (ltb (affine x) 256) _ (both-left (both (ltb (affine x) 256) (ltb (invAffine x) 256)) _ (below-at mapped 256 all-mapped x h)))
+  both-undone : T (_&&_ (eqb (invAffine (affine x)) x) (eqb (affine (invAffine x)) x))
+  both-undone = both-right (_&&_ (ltb (affine x) 256) (ltb (invAffine x) 256)) _ (below-at mapped 256 all-mapped x h)
 
-invAffine-affine : (x : ℕ) → x < 2 ^ 8 → invAffine (affine x) ≡ x
-invAffine-affine x h = eqb→eq (invAffine (affine x)) x (both-left (eqb (invAffine (affine x)) x) _ (both-right (both (ltb (affine x) 256) (ltb (invAffine x) 256)) _ (below-at mapped 256 all-mapped x h)))
+  affine-lt : affine x < 2 ^ 8
+  affine-lt = ltb→lt (affine x) 256 (both-left (ltb (affine x) 256) _ both-bytes)
 
-affine-invAffine : (x : ℕ) → x < 2 ^ 8 → affine (invAffine x) ≡ x
-affine-invAffine x h = eqb→eq (affine (invAffine x)) x (both-right (eqb (invAffine (affine x)) x) _ (both-right (both (ltb (affine x) 256) (ltb (invAffine x) 256)) _ (below-at mapped 256 all-mapped x h)))
+  invAffine-lt : invAffine x < 2 ^ 8
+  invAffine-lt = ltb→lt (invAffine x) 256 (both-right (ltb (affine x) 256) _ both-bytes)
+
+  invAffine-affine : invAffine (affine x) ≡ x
+  invAffine-affine = eqb→eq (invAffine (affine x)) x (both-left (eqb (invAffine (affine x)) x) _ both-undone)
+
+  affine-invAffine : affine (invAffine x) ≡ x
+  affine-invAffine = eqb→eq (affine (invAffine x)) x (both-right (eqb (invAffine (affine x)) x) _ both-undone)
 
 -- ---- the S-box and its inverse
 pub sbox-lt : (x : ℕ) → x < 2 ^ 8 → sbox x < 2 ^ 8

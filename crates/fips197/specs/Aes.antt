@@ -1,12 +1,11 @@
--- FIPS-197, sections 3 to 5, byte by byte, in the standard's order and names.
+-- FIPS-197, sections 3 to 5, byte by byte, in the standard's order and names; section numbers are those of the edition of November 26, 2001.
 -- A byte is a number below 256 and its bit i has the weight 2 ^ i; a block is a list of sixteen bytes.
-use mathlib.Core.Path.{_≡_}
-use mathlib.Core.Bool.{Bool, true, false}
+use mathlib.Core.Bool.{_&&_, cond}
 use mathlib.Core.List.{List, [], _∷_, _++_, map}
-use Prim.Native.Nat.{ℕ, zero, suc, _+_, _-_, _*_, _/_, _%_, _^_, _<_}
+use Prim.Native.Nat.{ℕ, zero, suc, _+_, _-_, _*_, _/_, _%_, _^_}
 use lib.Bits.{bitXor}
 use lib.Dec.{eqb, ltb}
-use lib.ListN.{getD, take, drop, length, set}
+use lib.ListN.{getD, take, drop}
 
 -- ---- 3: bytes, and the state
 
@@ -24,15 +23,6 @@ abbrev pub range : ℕ → ℕ → List ℕ
 range i zero = []
 range i (suc n) = i ∷ range (suc i) n
 
--- every number of a list has at most W bits
-pub record Fit (W : ℕ) (l : List ℕ) : Type 0 where
-  pub at : (n : ℕ) → getD l n 0 < 2 ^ W
-
--- sixteen bytes
-pub record Block (s : List ℕ) : Type 0 where
-  pub long : length s ≡ 16
-  pub bytes : Fit 8 s
-
 -- 3.4: byte n of a block stands in row n mod 4 and column n div 4; here rows and columns are counted modulo 4
 abbrev pub cell : List ℕ → ℕ → ℕ → ℕ
 cell s r c = getD s (r % 4 + 4 * (c % 4)) 0
@@ -47,20 +37,22 @@ block f = map (λ n. f (n % 4) (n / 4)) (range 0 16)
 unfoldable pub xtime : ℕ → ℕ
 xtime x = bitXor (x * 2 % 256) (bit 7 x * 0x1b)
 
-abbrev pub addIf : ℕ → ℕ → ℕ → ℕ
-addIf zero x y = y
-addIf (suc b) x y = bitXor x y
+-- the bits of a number below 2 ^ n, lowest first, up to the highest that is set
+abbrev pub bitsOf : ℕ → ℕ → List ℕ
+bitsOf zero c = []
+bitsOf (suc n) zero = []
+bitsOf (suc n) (suc c) = suc c % 2 ∷ bitsOf n (suc c / 2)
 
-abbrev pub productTo : ℕ → ℕ → ℕ → ℕ
-productTo zero c x = 0
-productTo (suc n) zero x = 0
-productTo (suc n) (suc c) x = addIf (suc c % 2) x (productTo n (suc c / 2) (xtime x))
+-- the sum of x, x times {02}, x times {02} ^ 2, .., each where its bit is set
+abbrev pub sumWhere : List ℕ → ℕ → ℕ
+sumWhere [] x = 0
+sumWhere (b ∷ bs) x = bitXor (cond (eqb b 1) x 0) (sumWhere bs (xtime x))
 
--- 4.2: the product: the sum of x times {02} ^ i for each bit i that is set in c
+-- 4.2: the product: the sum of x times {02} ^ i over the bits i that are set in c
 unfoldable pub product : ℕ → ℕ → ℕ
-product c x = productTo 8 c x
+product c x = sumWhere (bitsOf 8 c) x
 
--- 4.2: the inverse is the 254th power, and {00} for {00}
+-- 4.2: the inverse, as the 254th power: the product with it is {01} (`product-inverse`), and {00} goes to {00} (`inverse-zero`; proofs/Tables)
 unfoldable pub inverse : ℕ → ℕ
 inverse x =
     let x2 = product x x in
@@ -81,7 +73,7 @@ inverse x =
 unfoldable pub affine : ℕ → ℕ
 affine b = fromBits (map (λ i. (bit i b + bit ((i + 4) % 8) b + bit ((i + 5) % 8) b + bit ((i + 6) % 8) b + bit ((i + 7) % 8) b + bit i 0x63) % 2) (range 0 8))
 
--- 5.3.2: bit i is the sum of bits i + 2, i + 5, i + 7 (modulo 8) and of bit i of {05}
+-- 5.3.2: bit i is the sum of bits i + 2, i + 5, i + 7 (modulo 8) and of bit i of {05}; it undoes `affine` (`invAffine-affine`; proofs/Tables)
 unfoldable pub invAffine : ℕ → ℕ
 invAffine b = fromBits (map (λ i. (bit ((i + 2) % 8) b + bit ((i + 5) % 8) b + bit ((i + 7) % 8) b + bit i 0x05) % 2) (range 0 8))
 
@@ -150,19 +142,11 @@ roundConstants = 0x01 ∷ 0x02 ∷ 0x04 ∷ 0x08 ∷ 0x10 ∷ 0x20 ∷ 0x40 ∷ 
 unfoldable pub rcon : ℕ → List ℕ
 rcon j = getD roundConstants (j - 1) 0 ∷ 0 ∷ 0 ∷ 0 ∷ []
 
-abbrev pub choose : Bool → List ℕ → List ℕ → List ℕ
-choose true v w = v
-choose false v w = w
-
-abbrev pub both : Bool → Bool → Bool
-both true b = b
-both false b = false
-
 -- what is added to the word Nk before, to give word i: temp is word i - 1
 unfoldable pub keyTemp : ℕ → ℕ → List ℕ → List ℕ
 keyTemp nk i temp =
-    choose (eqb (i % nk) 0) (addWord (subWord (rotWord temp)) (rcon (i / nk)))
-    (choose (both (ltb 6 nk) (eqb (i % nk) 4)) (subWord temp) temp)
+    cond (eqb (i % nk) 0) (addWord (subWord (rotWord temp)) (rcon (i / nk)))
+    (cond (ltb 6 nk && eqb (i % nk) 4) (subWord temp) temp)
 
 -- n more words after the bytes ws, which hold words 0 to i - 1
 unfoldable pub moreWords : ℕ → ℕ → ℕ → List ℕ → List ℕ

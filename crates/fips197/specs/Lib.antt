@@ -1,2 +1,3 @@
 pub mod Aes
+pub mod Bytes
 pub mod Cases

@@ -1,84 +1,98 @@
--- The door's answers, each from the tests that lead there. Assumes nothing.
-use mathlib.Core.Path.{_≡_, refl, sym, _∙_, ap}
-use mathlib.Core.Bool.{true, false, not}
+-- The door: each answer from the tests that lead there; and the schedule of a key holds FIPS-197's round keys in every slot, so a batch under it is
+-- FIPS-197's with the key. Assumes nothing.
+use mathlib.Core.Path.{_≡_, _∙_, ap}
 use mathlib.Core.List.{List}
-use Prim.Native.Nat.{ℕ, zero, suc, _-_, _≤_, _<_}
+use Prim.Native.Nat.{ℕ, _-_, _*_, _%_, _≤_, _<_}
+use native.Mathlib.Nat.{mod-lt}
 use native.Mathlib.Omega.{arith}
 use borrow.Author.Tests.{eq-eqb, ne-eqb}
-use lib.Dec.{eqb}
-use lib.ListN.{length, take}
+use lib.Dec.{lit<}
+use lib.ListN.{length, take, getD, replicate, getD-replicate}
 use lib.Seq.{length-take-le}
-use Rattle.fips197.specs.Aes.{roundsFor}
-use Rattle.lanes.specs.Layout.{w64}
-use Rattle.lanes.specs.Schedule.{scheduleOf, encryptedBatch, decryptedBatch}
-use Rattle.schedule.proofs.Reading.{schedule-length}
-use Rattle.aes.specs.Outcome.{answers, keyWordsOf, scheduleWords, roundsOf, either, directed, expandOutcome, cryptOutcome, doorOutcome}
-use Rattle.aes.proofs.Answers.{KeySize, key-size, expand-taken, crypt-taken}
-use Rattle.host.specs.Door.{Ready}
+use Rattle.fips197.specs.Bytes.{Fit}
+use Rattle.fips197.specs.Aes.{sixteen, keyExpansion, cipher, invCipher}
+use Rattle.lanes.specs.Layout.{w64, slots, join}
+use Rattle.lanes.specs.Sizes.{keySize}
+use Rattle.lanes.specs.Schedule.{reading, scheduleOf, eachBlock, cryptedBatch}
+use Rattle.lanes.proofs.Sizes.{key-found}
+use Rattle.lanes.proofs.EqualParts.{joined-same}
+use Rattle.schedule.proofs.Reading.{schedule-length, schedule-reads}
+use Rattle.cipher.specs.Fixslice.{Scheduled}
+use Rattle.outcome.specs.Outcome.{answers}
+use Rattle.outcome.proofs.Laws.{is, is-not, differs, agrees, stop, pass}
+use Rattle.calls.specs.Calls.{keyWordsOf, directed, doorOutcome}
+use Rattle.calls.proofs.Directions.{neither, one-of}
+use Rattle.host.specs.Door.{crypted}
 
--- neither 0 nor 1
-neither : (d : ℕ) → 1 < d → not (either (eqb d 0) (eqb d 1)) ≡ true
-neither d h = rw (ne-eqb d 0 (λ e. omega arith), ne-eqb d 1 (λ e. omega arith))
-
-one-of : (d : ℕ) → d ≤ 1 → not (either (eqb d 0) (eqb d 1)) ≡ false
-one-of zero h = refl
-one-of (suc zero) h = refl
-one-of (suc (suc d)) h = absurd (omega arith)
-
+-- ---- the answers
 module _ (d : ℕ) (k i o : List ℕ) where
-  pub door-1 : keyWordsOf (length k) ≡ 0 → answers 1 o ≡ doorOutcome d k i o
-  unfolding doorOutcome
-  door-1 p = rw (eq-eqb (keyWordsOf (length k)) 0 p)
+  pub door-1 : keySize (length k) .nk ≡ 0 → answers 1 o ≡ doorOutcome d k i o
+  unfolding doorOutcome keyWordsOf
+  door-1 p = stop 1 o _ (is p)
 
-  module _ (p : keyWordsOf (length k) ≡ 0 → ⊥) where
-    pub door-3 : (length i ≡ 64 → ⊥) → answers 3 o ≡ doorOutcome d k i o
-    unfolding doorOutcome
-    door-3 q = rw (ne-eqb (keyWordsOf (length k)) 0 p, ne-eqb (length i) 64 q)
+  module _ (p : keySize (length k) .nk ≡ 0 → ⊥) where
+    pub door-3 : (length i ≡ 16 * slots w64 → ⊥) → answers 3 o ≡ doorOutcome d k i o
+    unfolding doorOutcome keyWordsOf
+    door-3 q = pass 1 o (is-not p) (stop 3 o _ (differs q))
 
-    pub door-4 : length i ≡ 64 → (length o ≡ 64 → ⊥) → answers 4 o ≡ doorOutcome d k i o
-    unfolding doorOutcome
-    door-4 q r = rw (ne-eqb (keyWordsOf (length k)) 0 p, eq-eqb (length i) 64 q, ne-eqb (length o) 64 r)
+    module _ (q : length i ≡ 16 * slots w64) where
+      pub door-4 : (length o ≡ 16 * slots w64 → ⊥) → answers 4 o ≡ doorOutcome d k i o
+      unfolding doorOutcome keyWordsOf
+      door-4 r = pass 1 o (is-not p) (pass 3 o (agrees q) (stop 4 o _ (differs r)))
 
-    pub door-5 : length i ≡ 64 → length o ≡ 64 → 1 < d → answers 5 o ≡ doorOutcome d k i o
-    unfolding doorOutcome
-    door-5 q r t = rw (ne-eqb (keyWordsOf (length k)) 0 p, eq-eqb (length i) 64 q, eq-eqb (length o) 64 r, neither d t)
+      module _ (r : length o ≡ 16 * slots w64) where
+        pub door-5 : 1 < d → answers 5 o ≡ doorOutcome d k i o
+        unfolding doorOutcome keyWordsOf
+        door-5 t = pass 1 o (is-not p) (pass 3 o (agrees q) (pass 4 o (agrees r) (stop 5 o _ (neither d t))))
 
-    door-0 : length i ≡ 64 → length o ≡ 64 → d ≤ 1
-        → answers 0 (directed (eqb d 0) (roundsFor (keyWordsOf (length k))) (scheduleOf w64 (keyWordsOf (length k)) k) i) ≡ doorOutcome d k i o
-    unfolding doorOutcome
-    door-0 q r t = rw (ne-eqb (keyWordsOf (length k)) 0 p, eq-eqb (length i) 64 q, eq-eqb (length o) 64 r, one-of d t)
+        pub door-0 : d ≤ 1 → {x : List ℕ} → x ≡ crypted d k i → answers 0 x ≡ doorOutcome d k i o
+        unfolding doorOutcome keyWordsOf
+        door-0 t e = pass 1 o (is-not p) (pass 3 o (agrees q) (pass 4 o (agrees r) (pass 5 o (one-of d t) (ap (answers 0) e))))
 
--- the two calls behind the tests: the expansion leaves s, and the batch goes through f
-module _ (d : ℕ) (k s₀ i o : List ℕ) (ready : Ready d k s₀ i o) {r₀ : ℕ} {s : List ℕ} (expanded : answers r₀ s ≡ expandOutcome w64 k s₀) where
-  nk : ℕ
-  nk = keyWordsOf (length k)
+-- ---- a batch under the schedule of a key
+module _ (key : List ℕ) (keyed : keySize (length key) .nk ≡ 0 → ⊥) where
+  -- what the cipher asks of it
+  pub scheduled : {n : ℕ} {s : List ℕ} → n ≡ keySize (length key) .rounds → s ≡ scheduleOf w64 (keySize (length key) .nk) key → Scheduled n (length s)
+  scheduled e f =
+      let z = key-found (length key) keyed .sized in
+      record {
+        words = ap length f ∙ schedule-length w64 (keySize (length key) .nk) key ∙ omega (arith, e, z .rounds-are);
+        even = rw e (z .even);
+        some = omega (arith, e, z .rounds-are, z .some);
+      }
 
-  size : KeySize (length k) nk (scheduleWords (length k))
-  unfolding nk
-  size = key-size (length k) (ready .keyed)
+  module _ (fits : Fit 8 key) (c : List (List ℕ) → List ℕ → List ℕ) (i : List ℕ) where
+    -- each slot reads as FIPS-197's round keys
+    reads : (b : ℕ) → b < slots w64
+        → reading w64 (keySize (length key) .rounds) (scheduleOf w64 (keySize (length key) .nk) key) b ≡ keyExpansion (keySize (length key) .nk) key
+    reads b h =
+        let f = key-found (length key) keyed in
+        ap (λ (n : ℕ). reading w64 n (scheduleOf w64 (keySize (length key) .nk) key) b) (f .sized .rounds-are)
+        ∙ schedule-reads w64 (keySize (length key) .nk) key (f .sized .some) (f .at) fits b h
 
-  is : s ≡ scheduleOf w64 nk k
-  unfolding nk
-  is = expand-taken w64 k s₀ expanded (ready .keyed) (ready .words ∙ size .length-is) .1
+    under-key : cryptedBatch c w64 (keySize (length key) .rounds) (scheduleOf w64 (keySize (length key) .nk) key) i
+        ≡ eachBlock w64 (λ slot. c (keyExpansion (keySize (length key) .nk) key)) (slots w64) i
+    unfolding cryptedBatch eachBlock
+    under-key = ap join (joined-same
+        (λ j. c (reading w64 (keySize (length key) .rounds) (scheduleOf w64 (keySize (length key) .nk) key) (j % 4)) (sixteen i j))
+        (λ j. c (keyExpansion (keySize (length key) .nk) key) (sixteen i j)) 4 0
+        (λ j h. ap (λ (ks : List (List ℕ)). c ks (sixteen i j)) (reads (j % 4) (mod-lt j (lit< tt)))))
 
-  rounds-of-s : roundsOf (length s) ≡ roundsFor nk
-  rounds-of-s = ap (λ (l : List ℕ). roundsOf (length l)) is ∙ ap roundsOf (schedule-length w64 nk k ∙ sym (size .length-is)) ∙ size .rounds-are
+    -- in the direction d
+    pub door-crypts : (d : ℕ) → directed d ≡ c → {n : ℕ} {s x : List ℕ} → n ≡ keySize (length key) .rounds
+        → s ≡ scheduleOf w64 (keySize (length key) .nk) key → x ≡ cryptedBatch c w64 n s i → x ≡ crypted d key i
+    unfolding keyWordsOf
+    door-crypts d way {n} {s} {x} e f g = rw way (g ∙ rw (e, f) under-key)
 
-  pub door-done : (f : ℕ → List ℕ → List ℕ → List ℕ) → directed (eqb d 0) ≡ f → {r : ℕ} {x : List ℕ} → answers r x ≡ cryptOutcome f 64 s i o → answers 0 x ≡ doorOutcome d k i o
-  unfolding nk
-  door-done f e {r} {x} a =
-      let t = crypt-taken f 64 s i o a (λ z. some (sym rounds-of-s ∙ z)) (ready .full-input) (ready .full-output) in
-      rw (t .1, rounds-of-s, is, ← e) (door-0 d k i o (ready .keyed) (ready .full-input) (ready .full-output) (ready .directed))
-    where
-      some : roundsFor nk ≡ 0 → ⊥
-      some z = omega arith
-
-pub encrypts : (d : ℕ) → d ≡ 0 → directed (eqb d 0) ≡ encryptedBatch w64
+pub encrypts : (d : ℕ) → d ≡ 0 → directed d ≡ cipher
 encrypts d e = rw (eq-eqb d 0 e)
 
-pub decrypts : (d : ℕ) → (d ≡ 0 → ⊥) → directed (eqb d 0) ≡ decryptedBatch w64
+pub decrypts : (d : ℕ) → (d ≡ 0 → ⊥) → directed d ≡ invCipher
 decrypts d e = rw (ne-eqb d 0 e)
 
--- the front part of the room for a schedule, as it is lent
+-- ---- the room for a schedule
 pub front-length : (l : List ℕ) (n : ℕ) → n ≤ length l → length (take (n - 0) l) ≡ n
 front-length l n h = let z : n - 0 ≡ n = omega arith in rw z (length-take-le n l h)
+
+pub blank-is-zero : (l : List ℕ) (i : ℕ) → l ≡ replicate 120 0 → i < 120 → getD l i 0 ≡ 0
+blank-is-zero l i e h = ap (λ (x : List ℕ). getD x i 0) e ∙ getD-replicate 120 i 0 0 h

@@ -4,9 +4,9 @@ use mathlib.Core.Path.{_≡_, sym, subst}
 use mathlib.Core.List.{List}
 use Prim.Native.Nat.{ℕ, _<_}
 use lib.ListN.{getD}
-use Rattle.fips197.specs.Aes.{Fit}
-use Rattle.lanes.specs.Layout.{Width, bits, Does, all}
-use Rattle.lanes.specs.Leaves.{mixForm, invMixForm}
+use Rattle.fips197.specs.Bytes.{Fit}
+use Rattle.lanes.specs.Layout.{Width, bits}
+use Rattle.lanes.specs.Leaves.{Does, all, mixForm, invMixForm}
 use Rattle.lanes.specs.Programs.{words, sums8, mixOuter, firstRotates, secondRotates, invMixD, invMixE, sums83}
 use Rattle.lanes.proofs.Linear.{mixWords, invMixWords, mix-law, invMix-law}
 
@@ -20,7 +20,8 @@ calls4 : (B : List ℕ) (C S : List ℕ → List ℕ) (R : List ℕ → List ℕ
 calls4 B C S R p q u v = cc
 
 -- six calls
-calls6 : (B : List ℕ) (C : List ℕ → List ℕ) (D : List ℕ → List ℕ) (E : List ℕ → List ℕ → List ℕ) (S : List ℕ → List ℕ) (R : List ℕ → List ℕ → List ℕ → List ℕ) {b c d e s r : List ℕ}
+calls6 : (B : List ℕ) (C D : List ℕ → List ℕ) (E : List ℕ → List ℕ → List ℕ) (S : List ℕ → List ℕ) (R : List ℕ → List ℕ → List ℕ → List ℕ)
+    {b c d e s r : List ℕ}
     → b ≡ B → c ≡ C b → d ≡ D c → e ≡ E c d → s ≡ S e → r ≡ R d e s → r ≡ R (D (C B)) (E (C B) (D (C B))) (S (E (C B) (D (C B))))
 calls6 B C D E S R p q t u v x = cc
 

@@ -2,15 +2,17 @@
 -- in all slots, and where the sums are the same (a computed test) the numbers are (`law`). Assumes nothing.
 use mathlib.Core.Path.{_≡_, sym, _∙_}
 use mathlib.Core.List.{List, [], _∷_, map}
-use mathlib.Core.Bool.{Bool, true}
+use mathlib.Core.Bool.{Bool, true, _&&_}
 use Prim.Native.Nat.{ℕ, zero, suc, _*_, _/_, _%_, _≤_, _<_}
 use native.Mathlib.Nat.{not-suc-le-zero, eq-or-lt-of-le, le-of-suc-le-suc}
 use mathlib.Core.Logic.{_⊎_, inl, inr}
 use lib.Dec.{T, lit≤}
 use lib.ListN.{getD}
-use Rattle.fips197.specs.Aes.{bit, fromBits, range, Fit, both}
+use Rattle.fips197.specs.Bytes.{Fit}
+use Rattle.fips197.specs.Aes.{bit, fromBits, range}
 use Rattle.fips197.proofs.Bits.{bit-lt, bit-cons-zero, bit-cons-suc}
-use Rattle.fips197.proofs.Linear.{Sum, den, Related, allOk, numbers, valueOf, zero-bit, both-left, both-right, xorR, orR, maskR, shrR, shlR, lowR, constR, bitTimesR, input, inputs, same, agree}
+use Rattle.fips197.proofs.Linear.{Sum, den, Related, allOk, numbers, valueOf, zero-bit, both-left, both-right, xorR, orR, maskR, shrR, shlR}
+use Rattle.fips197.proofs.Linear.{lowR, constR, bitTimesR, input, inputs, same, agree}
 use Rattle.fips197.proofs.Layers.{Bytes, related8}
 use Rattle.lanes.specs.Layout.{Width, w32, w64, bits, slots, place}
 use Rattle.lanes.specs.Programs.{Ops}
@@ -21,7 +23,16 @@ narrow w64 = lit≤ tt
 
 module _ (ws : List ℕ) where
   abbrev pub relatedWords : Width → Ops (Related (valueOf ws))
-  relatedWords w = record { const = constR ws (bits w); xor = xorR ws; or = orR ws; mask = maskR ws; shr = shrR ws; shl = shlR ws (bits w); low = λ a n. lowR ws n a; bitTimes = bitTimesR ws (bits w) }
+  relatedWords w = record {
+    const = constR ws (bits w);
+    xor = xorR ws;
+    or = orR ws;
+    mask = maskR ws;
+    shr = shrR ws;
+    shl = shlR ws (bits w);
+    low = λ a n. lowR ws n a;
+    bitTimes = bitTimesR ws (bits w);
+  }
 
   -- ---- a lane of related words
   abbrev pub column : ℕ → List (Related (valueOf ws)) → List Sum
@@ -30,15 +41,21 @@ module _ (ws : List ℕ) where
   abbrev pub gathered : ℕ → List (Related (valueOf ws)) → ℕ
   gathered k xs = fromBits (map (bit k) (numbers (valueOf ws) xs))
 
-  pub gather-at : (k : ℕ) (xs : List (Related (valueOf ws))) → T (allOk (valueOf ws) xs) → (q : ℕ) → bit q (gathered k xs) ≡ den (valueOf ws) (getD (column k xs) q [])
+  pub gather-at : (k : ℕ) (xs : List (Related (valueOf ws))) → T (allOk (valueOf ws) xs)
+      → (q : ℕ) → bit q (gathered k xs) ≡ den (valueOf ws) (getD (column k xs) q [])
   gather-at k [] t q = zero-bit q
-  gather-at k (x ∷ xs) t zero = bit-cons-zero (gathered k xs) (bit k (x .word)) (bit-lt k (x .word)) ∙ x .holds (both-left (x .sym .ok) (allOk (valueOf ws) xs) t) k
+  gather-at k (x ∷ xs) t zero =
+      bit-cons-zero (gathered k xs) (bit k (x .word)) (bit-lt k (x .word)) ∙ x .holds (both-left (x .sym .ok) (allOk (valueOf ws) xs) t) k
   gather-at k (x ∷ xs) t (suc q) =
       bit-cons-suc q (gathered k xs) (bit k (x .word)) (bit-lt k (x .word)) ∙ gather-at k xs (both-right (x .sym .ok) (allOk (valueOf ws) xs) t) q
 
   -- the number whose bit p is bit k of xs at p
   abbrev pub gatherR : ℕ → List (Related (valueOf ws)) → Related (valueOf ws)
-  gatherR k xs = record { word = fromBits (map (bit k) (numbers (valueOf ws) xs)); sym = record { ok = allOk (valueOf ws) xs; sums = column k xs }; holds = λ t q. gather-at k xs t q }
+  gatherR k xs = record {
+    word = gathered k xs;
+    sym = record { ok = allOk (valueOf ws) xs; sums = column k xs };
+    holds = λ t q. gather-at k xs t q;
+  }
 
   -- the block in slot b
   abbrev pub slotR : Width → List (Related (valueOf ws)) → ℕ → List (Related (valueOf ws))
@@ -48,7 +65,7 @@ module _ (ws : List ℕ) where
 module _ (ρ : ℕ → ℕ) where
   abbrev pub sameBelow : ℕ → (ℕ → List (Related ρ)) → (ℕ → List (Related ρ)) → Bool
   sameBelow zero f g = true
-  sameBelow (suc n) f g = both (same ρ (f n) (g n)) (sameBelow n f g)
+  sameBelow (suc n) f g = _&&_ (same ρ (f n) (g n)) (sameBelow n f g)
 
   pub agreeBelow : (n : ℕ) (f g : ℕ → List (Related ρ)) → T (sameBelow n f g) → (b : ℕ) → b < n → numbers ρ (f b) ≡ numbers ρ (g b)
   agreeBelow zero f g t b h = absurd (not-suc-le-zero h)

@@ -2,9 +2,13 @@
 pub mod Check
 pub mod Linear
 pub mod Rows
+pub mod KeyRule
 pub mod Packing
 pub mod Circuits
 pub mod SubBytes
 pub mod Machine
 pub mod Calls
 pub mod Parts
+pub mod Sizes
+pub mod EqualParts
+pub mod EachBlock

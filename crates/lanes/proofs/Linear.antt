@@ -2,19 +2,20 @@
 -- computed for each, the argument is `law`. Assumes nothing.
 use mathlib.Core.Path.{_≡_, refl, sym, ap, _∙_, subst}
 use mathlib.Core.List.{List, [], _∷_, _++_, map}
-use Prim.Native.Nat.{ℕ, zero, suc, _+_, _-_, _*_, _/_, _%_, _^_, _≤_, _<_}
+use Prim.Native.Nat.{ℕ, zero, suc, _+_, _*_, _/_, _%_, _^_, _<_}
 use native.Mathlib.Omega.{arith}
 use lib.Dec.{lit≤}
 use lib.Bits.{bitXor}
 use lib.ListN.{getD, set, replicate}
-use Rattle.fips197.specs.Aes.{Fit, range, product, xtime, shiftRows, invShiftRows, mixColumns, invMixColumns, addRoundKey}
+use Rattle.fips197.specs.Bytes.{Fit}
+use Rattle.fips197.specs.Aes.{range, product, xtime, shiftRows, invShiftRows, mixColumns, invMixColumns, addRoundKey}
 use Rattle.fips197.proofs.Blocks.{reads, fit-nil, fit-cons, fit-append, fit-reads, fit-map}
 use Rattle.fips197.proofs.Layers.{Bytes, shiftRowsOf, invShiftRowsOf, mixColumnsOf, invMixColumnsOf, addRoundKeyOf, blockOf, cellOf}
-use Rattle.lanes.specs.Layout.{Width, w32, w64, bits, slots, slot, Does, all}
-use Rattle.lanes.specs.Leaves.{add63, rowsShifted, rowsUnshifted, mixForm, invMixForm, addKeyOf, addConstant, keyColumns}
-use Rattle.lanes.specs.Schedule.{nextKeyOf}
+use Rattle.lanes.specs.Layout.{Width, w32, w64, bits, slots, slot}
+use Rattle.lanes.specs.Schedule.{add63, rowsShifted, rowsUnshifted}
+use Rattle.lanes.specs.Leaves.{Does, all, mixForm, invMixForm, addKeyOf, addConstant, keyColumns, nextKeyOf}
 use Rattle.lanes.specs.Programs.{words, each8, shiftWord, columnWord, notsProgram, constantProgram, mixProgram, invMixProgram}
-use Rattle.lanes.proofs.Check.{law, law-of}
+use Rattle.lanes.proofs.Check.{Program, Meaning, law, law-of}
 
 -- ---- what the leaves do to a block, over any bytes
 module _ {A : Type 0} (o : Bytes A) where
@@ -91,8 +92,12 @@ unfolding slot mixWords mixForm rowsShifted rowsUnshifted shiftRows invShiftRows
 mix64-3 ws fit = record { each = law w64 (λ A o a. mixProgram o w64 3 a) (λ A o a s b. mixFormOf o 3 (s 0 b)) ws fit tt }
 
 pub mix-law : (w : Width) (i : ℕ) → i < 4 → {ws : List ℕ} → Fit (bits w) ws → Does w (all (mixForm i)) ws (mixWords w i ws)
-mix-law w32 i h {ws} fit = four (λ i. Does w32 (all (mixForm i)) ws (mixWords w32 i ws)) (mix32-0 ws fit) (mix32-1 ws fit) (mix32-2 ws fit) (mix32-3 ws fit) i h
-mix-law w64 i h {ws} fit = four (λ i. Does w64 (all (mixForm i)) ws (mixWords w64 i ws)) (mix64-0 ws fit) (mix64-1 ws fit) (mix64-2 ws fit) (mix64-3 ws fit) i h
+mix-law w32 i h {ws} fit =
+    four (λ i. Does w32 (all (mixForm i)) ws (mixWords w32 i ws))
+    (mix32-0 ws fit) (mix32-1 ws fit) (mix32-2 ws fit) (mix32-3 ws fit) i h
+mix-law w64 i h {ws} fit =
+    four (λ i. Does w64 (all (mixForm i)) ws (mixWords w64 i ws))
+    (mix64-0 ws fit) (mix64-1 ws fit) (mix64-2 ws fit) (mix64-3 ws fit) i h
 
 invMix32-0 : (ws : List ℕ) → Fit 32 ws → Does w32 (all (invMixForm 0)) ws (invMixWords w32 0 ws)
 unfolding slot invMixWords invMixForm rowsShifted rowsUnshifted shiftRows invShiftRows invMixColumns product xtime
@@ -127,8 +132,12 @@ unfolding slot invMixWords invMixForm rowsShifted rowsUnshifted shiftRows invShi
 invMix64-3 ws fit = record { each = law w64 (λ A o a. invMixProgram o w64 3 a) (λ A o a s b. invMixFormOf o 3 (s 0 b)) ws fit tt }
 
 pub invMix-law : (w : Width) (i : ℕ) → i < 4 → {ws : List ℕ} → Fit (bits w) ws → Does w (all (invMixForm i)) ws (invMixWords w i ws)
-invMix-law w32 i h {ws} fit = four (λ i. Does w32 (all (invMixForm i)) ws (invMixWords w32 i ws)) (invMix32-0 ws fit) (invMix32-1 ws fit) (invMix32-2 ws fit) (invMix32-3 ws fit) i h
-invMix-law w64 i h {ws} fit = four (λ i. Does w64 (all (invMixForm i)) ws (invMixWords w64 i ws)) (invMix64-0 ws fit) (invMix64-1 ws fit) (invMix64-2 ws fit) (invMix64-3 ws fit) i h
+invMix-law w32 i h {ws} fit =
+    four (λ i. Does w32 (all (invMixForm i)) ws (invMixWords w32 i ws))
+    (invMix32-0 ws fit) (invMix32-1 ws fit) (invMix32-2 ws fit) (invMix32-3 ws fit) i h
+invMix-law w64 i h {ws} fit =
+    four (λ i. Does w64 (all (invMixForm i)) ws (invMixWords w64 i ws))
+    (invMix64-0 ws fit) (invMix64-1 ws fit) (invMix64-2 ws fit) (invMix64-3 ws fit) i h
 
 -- ---- shift_rows_n; n is 1, 2 or 3
 unfoldable pub shiftWords : Width → ℕ → List ℕ → List ℕ
@@ -185,32 +194,53 @@ pair-fits f g = fit-append (fit-reads 0 8 f) (fit-reads 0 8 g)
 unfoldable pub addWords : List ℕ → List ℕ → List ℕ
 addWords s t = map (λ p. bitXor (getD s p 0) (getD t p 0)) (range 0 8)
 
+abbrev addProgram : Program
+addProgram A o a = map (λ p. o .xor (a p) (a (8 + p))) (range 0 8)
+
+abbrev addMeaning : Meaning
+addMeaning A o a s b = addRoundKeyOf o (s 0 b) (s 1 b)
+
 pub add-law : (w : Width) {s t : List ℕ} → Fit (bits w) s → Fit (bits w) t → Does w (addKeyOf w t) s (addWords s t)
 unfolding slot addWords addRoundKey
-add-law w32 {s} {t} f g = record { each = law w32 (λ A o a. map (λ p. o .xor (a p) (a (8 + p))) (range 0 8)) (λ A o a s b. addRoundKeyOf o (s 0 b) (s 1 b)) (reads 0 8 s ++ reads 0 8 t) (pair-fits f g) tt }
-add-law w64 {s} {t} f g = record { each = law w64 (λ A o a. map (λ p. o .xor (a p) (a (8 + p))) (range 0 8)) (λ A o a s b. addRoundKeyOf o (s 0 b) (s 1 b)) (reads 0 8 s ++ reads 0 8 t) (pair-fits f g) tt }
+add-law w32 {s} {t} f g = record { each = law w32 addProgram addMeaning (reads 0 8 s ++ reads 0 8 t) (pair-fits f g) tt }
+add-law w64 {s} {t} f g = record { each = law w64 addProgram addMeaning (reads 0 8 s ++ reads 0 8 t) (pair-fits f g) tt }
 
 -- xor_columns: n is 0 or 1
 unfoldable pub columnWords : Width → ℕ → List ℕ → List ℕ → List ℕ
 columnWords w n prev cur = map (λ p. columnWord (words w) w n (getD prev p 0) (getD cur p 0)) (range 0 8)
 
+abbrev columnsProgram : Width → ℕ → Program
+columnsProgram w n A o a = map (λ p. columnWord o w n (a p) (a (8 + p))) (range 0 8)
+
+abbrev columnsMeaning : ℕ → Meaning
+columnsMeaning n A o a s b = blockOf o (keyColumnOf o n (s 0 b) (s 1 b))
+
 columns32-0 : (prev cur : List ℕ) → Fit 32 prev → Fit 32 cur → Does w32 (nextKeyOf w32 0 prev) cur (columnWords w32 0 prev cur)
 unfolding slot columnWords keyColumns
-columns32-0 prev cur f g = record { each = law w32 (λ A o a. map (λ p. columnWord o w32 0 (a p) (a (8 + p))) (range 0 8)) (λ A o a s b. blockOf o (keyColumnOf o 0 (s 0 b) (s 1 b))) (reads 0 8 prev ++ reads 0 8 cur) (pair-fits f g) tt }
+columns32-0 prev cur f g = record {
+  each = law w32 (columnsProgram w32 0) (columnsMeaning 0) (reads 0 8 prev ++ reads 0 8 cur) (pair-fits f g) tt;
+}
 
 columns32-1 : (prev cur : List ℕ) → Fit 32 prev → Fit 32 cur → Does w32 (nextKeyOf w32 1 prev) cur (columnWords w32 1 prev cur)
 unfolding slot columnWords keyColumns
-columns32-1 prev cur f g = record { each = law w32 (λ A o a. map (λ p. columnWord o w32 1 (a p) (a (8 + p))) (range 0 8)) (λ A o a s b. blockOf o (keyColumnOf o 1 (s 0 b) (s 1 b))) (reads 0 8 prev ++ reads 0 8 cur) (pair-fits f g) tt }
+columns32-1 prev cur f g = record {
+  each = law w32 (columnsProgram w32 1) (columnsMeaning 1) (reads 0 8 prev ++ reads 0 8 cur) (pair-fits f g) tt;
+}
 
 columns64-0 : (prev cur : List ℕ) → Fit 64 prev → Fit 64 cur → Does w64 (nextKeyOf w64 0 prev) cur (columnWords w64 0 prev cur)
 unfolding slot columnWords keyColumns
-columns64-0 prev cur f g = record { each = law w64 (λ A o a. map (λ p. columnWord o w64 0 (a p) (a (8 + p))) (range 0 8)) (λ A o a s b. blockOf o (keyColumnOf o 0 (s 0 b) (s 1 b))) (reads 0 8 prev ++ reads 0 8 cur) (pair-fits f g) tt }
+columns64-0 prev cur f g = record {
+  each = law w64 (columnsProgram w64 0) (columnsMeaning 0) (reads 0 8 prev ++ reads 0 8 cur) (pair-fits f g) tt;
+}
 
 columns64-1 : (prev cur : List ℕ) → Fit 64 prev → Fit 64 cur → Does w64 (nextKeyOf w64 1 prev) cur (columnWords w64 1 prev cur)
 unfolding slot columnWords keyColumns
-columns64-1 prev cur f g = record { each = law w64 (λ A o a. map (λ p. columnWord o w64 1 (a p) (a (8 + p))) (range 0 8)) (λ A o a s b. blockOf o (keyColumnOf o 1 (s 0 b) (s 1 b))) (reads 0 8 prev ++ reads 0 8 cur) (pair-fits f g) tt }
+columns64-1 prev cur f g = record {
+  each = law w64 (columnsProgram w64 1) (columnsMeaning 1) (reads 0 8 prev ++ reads 0 8 cur) (pair-fits f g) tt;
+}
 
-pub columns-law : (w : Width) (n : ℕ) → n < 2 → {prev cur : List ℕ} → Fit (bits w) prev → Fit (bits w) cur → Does w (nextKeyOf w n prev) cur (columnWords w n prev cur)
+pub columns-law : (w : Width) (n : ℕ) → n < 2 → {prev cur : List ℕ} → Fit (bits w) prev
+    → Fit (bits w) cur → Does w (nextKeyOf w n prev) cur (columnWords w n prev cur)
 columns-law w32 zero h {prev} {cur} f g = columns32-0 prev cur f g
 columns-law w32 (suc zero) h {prev} {cur} f g = columns32-1 prev cur f g
 columns-law w32 (suc (suc n)) h f g = absurd (omega arith)
@@ -223,10 +253,13 @@ unfoldable pub constantWords : Width → ℕ → List ℕ
 constantWords w x = constantProgram (words w) w x
 
 -- the byte x alone, at row 1 and column 3
+abbrev constantMeaning : Meaning
+constantMeaning A o a s b = set (replicate 16 (o .byte 0)) 13 (a 0)
+
 constant-slot : (w : Width) (x : ℕ) → x < 2 ^ 8 → (b : ℕ) → b < slots w → slot w (constantWords w x) b ≡ set (replicate 16 0) 13 x
 unfolding slot constantWords
-constant-slot w32 x h = law-of 8 (lit≤ tt) w32 (λ A o a. constantProgram o w32 (a 0)) (λ A o a s b. set (replicate 16 (o .byte 0)) 13 (a 0)) (x ∷ []) (fit-cons x h (fit-nil 8)) tt
-constant-slot w64 x h = law-of 8 (lit≤ tt) w64 (λ A o a. constantProgram o w64 (a 0)) (λ A o a s b. set (replicate 16 (o .byte 0)) 13 (a 0)) (x ∷ []) (fit-cons x h (fit-nil 8)) tt
+constant-slot w32 x h = law-of 8 (lit≤ tt) w32 (λ A o a. constantProgram o w32 (a 0)) constantMeaning (x ∷ []) (fit-cons x h (fit-nil 8)) tt
+constant-slot w64 x h = law-of 8 (lit≤ tt) w64 (λ A o a. constantProgram o w64 (a 0)) constantMeaning (x ∷ []) (fit-cons x h (fit-nil 8)) tt
 
 constant-fits : (w : Width) (x : ℕ) → Fit (bits w) (constantWords w x)
 unfolding constantWords

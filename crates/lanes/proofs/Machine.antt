@@ -8,7 +8,7 @@ use denote.Array.{each}
 use denote.Shadow.{shadow}
 use borrow.Author.Needs.{elem-fits}
 use lib.ListN.{getD}
-use Rattle.fips197.specs.Aes.{Fit}
+use Rattle.fips197.specs.Bytes.{Fit}
 use Rattle.lanes.specs.Layout.{Width, w32, w64, bits}
 
 abbrev pub machine : Width → M.Width

@@ -2,18 +2,20 @@
 -- unpacking, both ways round. Assumes nothing.
 use mathlib.Core.Path.{_≡_, refl, sym, ap, ap₂, _∙_}
 use mathlib.Core.List.{List, [], _∷_, _++_, map, append-assoc}
-use Prim.Native.Nat.{ℕ, zero, suc, _+_, _-_, _*_, _/_, _%_, _^_, _≤_, _<_}
+use Prim.Native.Nat.{ℕ, zero, suc, _+_, _*_, _/_, _%_, _^_, _≤_, _<_}
 use native.Mathlib.Nat.{zero-lt-suc, pow-suc}
 use native.Mathlib.Omega.{arith}
 use lib.Dec.{lit≤, lit<}
 use lib.ListN.{getD, take, drop, length, length-drop, length-append, drop-of-length-le}
 use lib.Seq.{getD-drop, take-all, take-at, drop-at}
-use Rattle.fips197.specs.Aes.{Fit, Block, bit, fromBits, range, block, sixteen}
+use Rattle.fips197.specs.Bytes.{Fit, Block}
+use Rattle.fips197.specs.Aes.{bit, fromBits, range, sixteen}
 use Rattle.fips197.proofs.Bits.{bit-lt}
-use Rattle.fips197.proofs.Linear.{Related, numbers, valueOf, input, inputs, same, agree, agreeLists}
+use Rattle.fips197.proofs.Linear.{Related, valueOf, input, inputs, agree, agreeLists}
 use Rattle.fips197.proofs.Blocks.{reads, reads-part, reads-all, block-is, fit-append, fit-reads, fit-map}
-use Rattle.lanes.specs.Layout.{Width, w32, w64, bits, slots, Packs, unpacked, rowWidth, quarterRow, place, lane, slot, laneByte, pack, eachSlot, join}
+use Rattle.lanes.specs.Layout.{Width, w32, w64, bits, slots, rowWidth, quarterRow, place, lane, slot, laneByte, pack, eachSlot, join}
 use Rattle.lanes.specs.Schedule.{wordsAt, stored}
+use Rattle.lanes.specs.Leaves.{Packs, unpacked}
 use Rattle.lanes.specs.Programs.{words, on8, at, swaps1, swaps2, swaps4, swapsProgram, loadProgram, broadcastProgram, storeProgram}
 use Rattle.lanes.proofs.Check.{narrow, relatedWords, gatherR, slotR, law-of}
 
@@ -48,7 +50,10 @@ pack-law w l fit e b h = pack-slots w l fit b h ∙ sixteen-from l (16 * b) (lon
 -- the three layers of swaps as calls
 pub swaps-calls : (w : Width) (t : List ℕ) {k l m : List ℕ} → k ≡ on8 (swaps1 (words w) w) (λ p. getD t p 0) → l ≡ on8 (swaps2 (words w) w) (λ p. getD k p 0)
     → m ≡ on8 (swaps4 (words w) w) (λ p. getD l p 0) → m ≡ swapsProgram (words w) w (λ p. getD t p 0)
-swaps-calls w t p q r = r ∙ ap (λ (l : List ℕ). on8 (swaps4 (words w) w) (λ p. getD l p 0)) (q ∙ ap (λ (l : List ℕ). on8 (swaps2 (words w) w) (λ p. getD l p 0)) p)
+swaps-calls w t p q r =
+    r
+    ∙ ap (λ (l : List ℕ). on8 (swaps4 (words w) w) (λ p. getD l p 0))
+    (q ∙ ap (λ (l : List ℕ). on8 (swaps2 (words w) w) (λ p. getD l p 0)) p)
 
 -- bitslice, where the words before the swaps are known by an equation
 pub packs : (w : Width) {l t r : List ℕ} → Fit 8 l → length l ≡ 16 * slots w → t ≡ loadProgram (words w) w (λ i. getD l i 0)
@@ -75,6 +80,10 @@ broadcasts w {l} {t} {r} fit e p q b h =
 unfoldable pub swapWords : Width → List ℕ → List ℕ
 swapWords w ws = swapsProgram (words w) w (λ p. getD ws p 0)
 
+abbrev joinOf : {A : Type 0} → List (List A) → List A
+joinOf [] = []
+joinOf (l ∷ ls) = l ++ joinOf ls
+
 module _ (w : Width) (ws : List ℕ) (fit : Fit (bits w) ws) where
   abbrev swappedR : ℕ → Related (valueOf ws)
   swappedR p = at (relatedWords ws w) w (swapsProgram (relatedWords ws w) w (input (bits w) (narrow w) ws fit)) p
@@ -82,16 +91,16 @@ module _ (w : Width) (ws : List ℕ) (fit : Fit (bits w) ws) where
   abbrev statesR : List (Related (valueOf ws))
   statesR = inputs (bits w) (narrow w) ws fit 0 8
 
-abbrev joinOf : {A : Type 0} → List (List A) → List A
-joinOf [] = []
-joinOf (l ∷ ls) = l ++ joinOf ls
+  -- the bytes from the swapped words
+  abbrev storedR : List (Related (valueOf ws))
+  storedR = joinOf (eachSlot w (storeProgram (relatedWords ws w) w swappedR))
 
 -- the bytes from the swapped words are the slots one after the other
 pub unpack-law : (w : Width) {ws : List ℕ} → Fit (bits w) ws
     → join (eachSlot w (storeProgram (words w) w (λ p. getD (swapWords w ws) p 0))) ≡ join (eachSlot w (slot w ws))
 unfolding slot swapWords
-unpack-law w32 {ws} fit = agree (valueOf ws) (joinOf (eachSlot w32 (storeProgram (relatedWords ws w32) w32 (swappedR w32 ws fit)))) (joinOf (eachSlot w32 (slotR ws w32 (statesR w32 ws fit)))) tt
-unpack-law w64 {ws} fit = agree (valueOf ws) (joinOf (eachSlot w64 (storeProgram (relatedWords ws w64) w64 (swappedR w64 ws fit)))) (joinOf (eachSlot w64 (slotR ws w64 (statesR w64 ws fit)))) tt
+unpack-law w32 {ws} fit = agree (valueOf ws) (storedR w32 ws fit) (joinOf (eachSlot w32 (slotR ws w32 (statesR w32 ws fit)))) tt
+unpack-law w64 {ws} fit = agree (valueOf ws) (storedR w64 ws fit) (joinOf (eachSlot w64 (slotR ws w64 (statesR w64 ws fit)))) tt
 
 -- inv_bitslice, where the swapped words are known by an equation
 pub unpacks : (w : Width) {s t : List ℕ} → Fit (bits w) s → t ≡ swapsProgram (words w) w (λ p. getD s p 0)
@@ -123,14 +132,19 @@ module _ (x : ℕ → List ℕ) (e : (b : ℕ) → length (x b) ≡ 16) (o : Lis
       let q : List ℕ = drop 16 o in
       let f₁ : o₁ ≡ x 0 ++ q = e₁ ∙ rw ea in
       let f₂ : o₂ ≡ x 0 ++ x 1 ++ drop 16 q = e₂ ∙ rw (f₁, eb) (next-part (x 0) q (x 1) 16 (e 0)) in
-      let f₃ : o₃ ≡ x 0 ++ x 1 ++ x 2 ++ drop 16 (drop 16 q) = e₃ ∙ rw (f₂, ec) (next-part (x 0 ++ x 1) (drop 16 q) (x 2) 32 (rw (length-append, e 0, e 1))) in
+      let f₃ : o₃ ≡ x 0 ++ x 1 ++ x 2 ++ drop 16 (drop 16 q) =
+      e₃ ∙ rw (f₂, ec) (next-part (x 0 ++ x 1) (drop 16 q) (x 2) 32 (rw (length-append, e 0, e 1))) in
       let z : drop 16 (drop 16 (drop 16 q)) ≡ [] = drop-of-length-le (drop 16 (drop 16 q)) {i = 16} (simp length-drop (omega arith)) in
-      rw (f₃, ed) (next-part (x 0 ++ x 1 ++ x 2) (drop 16 (drop 16 q)) (x 3) 48 (rw (length-append, length-append, e 0, e 1, e 2)) ∙ rw z (simp append-assoc))
+      let l : length (x 0 ++ x 1 ++ x 2) ≡ 48 = rw (length-append, length-append, e 0, e 1, e 2) in
+      rw (f₃, ed) (next-part (x 0 ++ x 1 ++ x 2) (drop 16 (drop 16 q)) (x 3) 48 l ∙ rw z (simp append-assoc))
 
 -- ---- the layout's own packing
 -- the words of some bytes in the order of their lanes
 abbrev packedR : (w : Width) (l : List ℕ) → (ℕ → ℕ → Related (valueOf l)) → List (Related (valueOf l))
-packedR w l a = map (λ p. gatherR l p (map (λ k. a (k % quarterRow w) (k / rowWidth w % 4 + 4 * (k % rowWidth w / quarterRow w % 4))) (range 0 (bits w)))) (range 0 8)
+packedR w l a = map (λ p. gatherR l p (map inLane (range 0 (bits w)))) (range 0 8)
+  where
+    inLane : ℕ → Related (valueOf l)
+    inLane k = a (k % quarterRow w) (k / rowWidth w % 4 + 4 * (k % rowWidth w / quarterRow w % 4))
 
 -- unpacking undoes packing
 module _ (w : Width) (f : ℕ → List ℕ) (fits : (b : ℕ) → Fit 8 (f b)) where
@@ -207,11 +221,17 @@ pack-length w bs = refl
 
 pub pack-fits : (w : Width) (bs : List (List ℕ)) → Fit (bits w) (pack w bs)
 unfolding pack
-pack-fits w bs = fit-map (bits w) _ (λ p. rw (long w (λ k. bit p (laneByte w bs k))) at (from-lt (map (λ k. bit p (laneByte w bs k)) (range 0 (bits w))) (λ q. fit-map 1 _ (λ k. bit-lt p (laneByte w bs k)) (range 0 (bits w)) .at q))) (range 0 8)
+pack-fits w bs = fit-map (bits w) _ word-fits (range 0 8)
   where
     long : (w : Width) (f : ℕ → ℕ) → length (map f (range 0 (bits w))) ≡ bits w
     long w32 f = refl
     long w64 f = refl
+
+    word-fits : (p : ℕ) → fromBits (map (λ k. bit p (laneByte w bs k)) (range 0 (bits w))) < 2 ^ bits w
+    word-fits p =
+        let small : (q : ℕ) → getD (map (λ k. bit p (laneByte w bs k)) (range 0 (bits w))) q 0 < 2 =
+        λ q. fit-map 1 _ (λ k. bit-lt p (laneByte w bs k)) (range 0 (bits w)) .at q in
+        rw (long w (λ k. bit p (laneByte w bs k))) at (from-lt (map (λ k. bit p (laneByte w bs k)) (range 0 (bits w))) small)
 
 -- every lane is a byte
 pub lane-lt : (k : ℕ) (ws : List ℕ) → lane k ws < 2 ^ 8
@@ -220,7 +240,10 @@ lane-lt k ws = from-lt (map (λ p. bit k (getD ws p 0)) (range 0 8)) (λ q. fit-
 -- every slot holds a block
 pub slot-block : (w : Width) (ws : List ℕ) (b : ℕ) → Block (slot w ws b)
 unfolding slot
-slot-block w ws b = record { long = refl; bytes = fit-map 8 (λ n. lane (place w (n % 4) (n / 4) b) ws) (λ n. lane-lt (place w (n % 4) (n / 4) b) ws) (range 0 16) }
+slot-block w ws b = record {
+  long = refl;
+  bytes = fit-map 8 (λ n. lane (place w (n % 4) (n / 4) b) ws) (λ n. lane-lt (place w (n % 4) (n / 4) b) ws) (range 0 16);
+}
 
 -- so does every round key of a schedule, whatever its words are
 pub stored-block : (w : Width) (l : List ℕ) (b r : ℕ) → Block (stored w l b r)

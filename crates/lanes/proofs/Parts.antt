@@ -6,8 +6,9 @@ use native.Mathlib.Omega.{arith}
 use lib.ListN.{take, drop, length, length-append, length-drop, drop-of-length-le, take-append-drop}
 use lib.Seq.{drop-drop, take-at, drop-at, take-append-le, drop-append-le, length-take-le, sets, sets-eq}
 use Rattle.fips197.proofs.Blocks.{reads, reads-all}
-use Rattle.lanes.specs.Layout.{Width, Does}
-use Rattle.lanes.specs.Schedule.{wordsAt, put, Changes, nextKeyOf}
+use Rattle.lanes.specs.Layout.{Width}
+use Rattle.lanes.specs.Schedule.{wordsAt}
+use Rattle.lanes.specs.Leaves.{Does, put, Changes, nextKeyOf}
 
 -- ---- eight words as a value
 abbrev pub eight : List ℕ → List ℕ
@@ -82,6 +83,10 @@ module _ (l : List ℕ) (at : ℕ) (ws : List ℕ) (h : at + 8 ≤ length l) (e 
   unfolding put
   put-put vs =
       rw (take-at (take at l) (ws ++ drop 8 (drop at l)) at front, drop-at (take at l) (ws ++ drop 8 (drop at l)) at front, drop-at ws (drop 8 (drop at l)) 8 e)
+
+-- loaded, worked on and stored: what the callee says of values is said of the words
+pub in-place : {w : Width} {f : ℕ → List ℕ → List ℕ} {before s r after : List ℕ} → s ≡ before → Does w f s r → after ≡ r → Does w f before after
+in-place {w} {f} loaded does stored = subst₂ (Does w f) loaded (sym stored) does
 
 -- a part lent, changed and given back: what the callee says of it is said of the whole
 pub changed : (w : Width) {f : ℕ → List ℕ → List ℕ} {l part ws : List ℕ} (at : ℕ) → at + 8 ≤ length l → length ws ≡ 8

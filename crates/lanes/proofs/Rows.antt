@@ -6,11 +6,11 @@ use native.Mathlib.Omega.{arith}
 use lib.Bits.{bitXor, xor-lt, xor-zero-r}
 use lib.Dec.{lit<, eqb}
 use lib.ListN.{length-map}
-use Rattle.fips197.specs.Aes.{Block, shiftRows, invShiftRows}
+use Rattle.fips197.specs.Bytes.{Block}
+use Rattle.fips197.specs.Aes.{shiftRows, invShiftRows}
 use Rattle.fips197.proofs.Bits.{xor-assoc}
 use Rattle.fips197.proofs.Blocks.{chosen, block-is, fit-each, shift-block, invShift-block}
-use Rattle.lanes.specs.Leaves.{add63, rowsShifted, rowsUnshifted}
-use Rattle.lanes.specs.Schedule.{readKey}
+use Rattle.lanes.specs.Schedule.{add63, rowsShifted, rowsUnshifted, readKey}
 
 -- ---- blocks stay blocks
 pub add63-block : {s : List ℕ} → Block s → Block (add63 s)

@@ -12,8 +12,9 @@ use Rattle.fips197.proofs.Bits.{bit-lt, xor-bit, and-bit, bit-cons-zero, bit-co
 use Rattle.fips197.proofs.Linear.{zero-bit}
 use Rattle.fips197.proofs.Tables.{below, below-at}
 use Rattle.fips197.proofs.Blocks.{reads}
-use Rattle.lanes.specs.Layout.{Width, place, lane, slot, Does, all}
-use Rattle.lanes.specs.Leaves.{add63, bareSubBytes, invBareSubBytes}
+use Rattle.lanes.specs.Layout.{Width, place, lane, slot}
+use Rattle.lanes.specs.Schedule.{add63}
+use Rattle.lanes.specs.Leaves.{Does, all, bareSubBytes, invBareSubBytes}
 use Rattle.lanes.specs.Programs.{Eight, on8}
 use Rattle.lanes.proofs.Circuits.{subProgram, invSubProgram}
 use Rattle.lanes.proofs.Packing.{lane-lt}
@@ -40,10 +41,18 @@ record Lane (k : ℕ) : Type 0 where
 
 module _ (k : ℕ) where
   abbrev xorL : Lane k → Lane k → Lane k
-  xorL a b = record { word = bitXor (a .word) (b .word); value = bitXor (a .value) (b .value); holds = xor-bit k (a .word) (b .word) ∙ ap₂ bitXor (a .holds) (b .holds) }
+  xorL a b = record {
+    word = bitXor (a .word) (b .word);
+    value = bitXor (a .value) (b .value);
+    holds = xor-bit k (a .word) (b .word) ∙ ap₂ bitXor (a .holds) (b .holds);
+  }
 
   abbrev andL : Lane k → Lane k → Lane k
-  andL a b = record { word = bitAnd (a .word) (b .word); value = bitAnd (a .value) (b .value); holds = and-bit k (a .word) (b .word) ∙ ap₂ bitAnd (a .holds) (b .holds) }
+  andL a b = record {
+    word = bitAnd (a .word) (b .word);
+    value = bitAnd (a .value) (b .value);
+    holds = and-bit k (a .word) (b .word) ∙ ap₂ bitAnd (a .holds) (b .holds);
+  }
 
   values : (xs : List (Lane k)) → map (bit k) (map (λ x. x .word) xs) ≡ map (λ x. x .value) xs
   values [] = refl

@@ -1,9 +1,8 @@
 -- The layout: where the bytes of two or four blocks stand in eight words of 32 or 64 bits (docs/SCOPE.md, "Layout"; word.rs's picture).
-use mathlib.Core.Path.{_≡_}
 use mathlib.Core.List.{List, [], _∷_, _++_, map}
-use Prim.Native.Nat.{ℕ, _+_, _-_, _*_, _/_, _%_, _^_, _<_}
+use Prim.Native.Nat.{ℕ, _+_, _*_, _/_, _%_}
 use lib.ListN.{getD}
-use Rattle.fips197.specs.Aes.{bit, fromBits, range, block, cell, sixteen}
+use Rattle.fips197.specs.Aes.{bit, fromBits, range, block, cell}
 
 pub data Width : Type 0 where
   w32 : Width
@@ -19,11 +18,11 @@ abbrev pub slots : Width → ℕ
 slots w32 = 2
 slots w64 = 4
 
--- a word has a row of the state to each quarter
+-- each quarter of a word is a row of the state
 abbrev pub rowWidth : Width → ℕ
 rowWidth w = bits w / 4
 
--- and a row a column to each quarter
+-- and each quarter of a row a column
 abbrev pub quarterRow : Width → ℕ
 quarterRow w = bits w / 16
 
@@ -55,43 +54,3 @@ eachSlot w f = map f (range 0 (slots w))
 abbrev pub join : List (List ℕ) → List ℕ
 join [] = []
 join (l ∷ ls) = l ++ join ls
-
--- in each slot, the block of r is f of the block of s; f may go by the slot
-pub record Does (w : Width) (f : ℕ → List ℕ → List ℕ) (s r : List ℕ) : Type 0 where
-  pub each : (b : ℕ) → b < slots w → slot w r b ≡ f b (slot w s b)
-
--- the same in every slot
-abbrev pub all : (List ℕ → List ℕ) → ℕ → List ℕ → List ℕ
-all f b x = f x
-
--- bitslice: slot b of the words holds block b of the bytes
-pub record Packs (w : Width) (l ws : List ℕ) : Type 0 where
-  pub each : (b : ℕ) → b < slots w → slot w ws b ≡ sixteen l b
-
--- inv_bitslice: the slots one after the other
-unfoldable pub unpacked : Width → List ℕ → List ℕ
-unpacked w ws = join (eachSlot w (slot w ws))
-
--- ---- masks
-
--- double_bits: bit i becomes bits 2i and 2i + 1
-unfoldable pub doubleBits : ℕ → ℕ
-doubleBits x = fromBits (map (λ k. bit (k / 2) x) (range 0 16))
-
--- a byte as the pattern of a row: two bits to a column, at 64 bits four
-abbrev pub rowPattern : Width → ℕ → ℕ
-rowPattern w32 x = x
-rowPattern w64 x = fromBits (map (λ k. bit (k / 2) x) (range 0 16))
-
--- pack_rows: a pattern to each row
-abbrev pub packRows : Width → ℕ → ℕ → ℕ → ℕ → ℕ
-packRows w a b c d =
-    rowPattern w a + rowPattern w b * 2 ^ rowWidth w + rowPattern w c * 2 ^ (rowWidth w * 2) + rowPattern w d * 2 ^ (rowWidth w * 3)
-
--- uniform_row: the same pattern to every row
-abbrev pub uniformRow : Width → ℕ → ℕ
-uniformRow w x = packRows w x x x x
-
--- byte_repeat: a byte to every byte of a word
-abbrev pub byteRepeat : Width → ℕ → ℕ
-byteRepeat w x = x * ((2 ^ bits w - 1) / 255)

@@ -1,14 +1,33 @@
--- What the leaves do to a block, in the words of FIPS-197. The missing 63 of the S-box circuits is here and in the reading of a schedule only.
-use mathlib.Core.List.{List, map}
-use Prim.Native.Nat.{ℕ, zero, suc, _+_}
+-- What the inner functions promise: each in its own words of FIPS-197, slot by slot. No public promise reaches this file.
+-- The missing 63 of the S-box circuits is here and in the reading of a schedule only.
+use mathlib.Core.Path.{_≡_}
+use mathlib.Core.List.{List, _++_}
+use Prim.Native.Nat.{ℕ, zero, suc, _+_, _<_}
 use lib.Bits.{bitXor}
-use lib.ListN.{set, replicate}
-use Rattle.fips197.specs.Aes.{block, cell, subBytes, invSubBytes, shiftRows, invShiftRows, mixColumns, invMixColumns, addRoundKey}
-use Rattle.lanes.specs.Layout.{Width, slot}
+use lib.ListN.{take, drop, set, replicate}
+use Rattle.fips197.specs.Aes.{block, cell, sixteen, subBytes, invSubBytes, mixColumns, invMixColumns, addRoundKey}
+use Rattle.lanes.specs.Layout.{Width, slots, slot, eachSlot, join}
+use Rattle.lanes.specs.Schedule.{wordsAt, add63, rowsShifted, rowsUnshifted}
 
--- 63 added to every byte: what sub_bytes_nots does
-unfoldable pub add63 : List ℕ → List ℕ
-add63 s = map (λ x. bitXor x 0x63) s
+-- ---- states of eight words
+
+-- in each slot, the block of r is f of the block of s; f may go by the slot
+pub record Does (w : Width) (f : ℕ → List ℕ → List ℕ) (s r : List ℕ) : Type 0 where
+  pub each : (b : ℕ) → b < slots w → slot w r b ≡ f b (slot w s b)
+
+-- the same in every slot
+abbrev pub all : (List ℕ → List ℕ) → ℕ → List ℕ → List ℕ
+all f b x = f x
+
+-- bitslice: slot b of the words holds block b of the bytes
+pub record Packs (w : Width) (l ws : List ℕ) : Type 0 where
+  pub each : (b : ℕ) → b < slots w → slot w ws b ≡ sixteen l b
+
+-- inv_bitslice: the slots one after the other
+unfoldable pub unpacked : Width → List ℕ → List ℕ
+unpacked w ws = join (eachSlot w (slot w ws))
+
+-- ---- what a leaf does to a block
 
 -- sub_bytes: SubBytes without its constant 63
 unfoldable pub bareSubBytes : List ℕ → List ℕ
@@ -17,16 +36,6 @@ bareSubBytes s = add63 (subBytes s)
 -- inv_sub_bytes: the exact inverse of that
 unfoldable pub invBareSubBytes : List ℕ → List ℕ
 invBareSubBytes s = invSubBytes (add63 s)
-
--- shift_rows_n: ShiftRows n times
-unfoldable pub rowsShifted : ℕ → List ℕ → List ℕ
-rowsShifted zero s = s
-rowsShifted (suc n) s = shiftRows (rowsShifted n s)
-
--- inv_shift_rows_n: InvShiftRows n times
-unfoldable pub rowsUnshifted : ℕ → List ℕ → List ℕ
-rowsUnshifted zero s = s
-rowsUnshifted (suc n) s = invShiftRows (rowsUnshifted n s)
 
 -- mix_columns, form i: MixColumns between i row shifts and their undoing
 unfoldable pub mixForm : ℕ → List ℕ → List ℕ
@@ -52,3 +61,18 @@ keyColumn n prev t r (suc c) = bitXor (cell prev r (suc c)) (keyColumn n prev t 
 
 unfoldable pub keyColumns : ℕ → List ℕ → List ℕ → List ℕ
 keyColumns n prev t = block (keyColumn n prev t)
+
+-- xor_columns: each slot's next key, from the words of the key before; n rows are turned
+abbrev pub nextKeyOf : Width → ℕ → List ℕ → ℕ → List ℕ → List ℕ
+nextKeyOf w n prev b x = keyColumns n (slot w prev b) x
+
+-- ---- parts of a schedule
+
+-- the list with other words from an offset on, and nothing else changed
+unfoldable pub put : List ℕ → ℕ → List ℕ → List ℕ
+put l at ws = take at l ++ (ws ++ drop 8 (drop at l))
+
+-- the eight words at an offset went through f, each slot, and nothing else of the schedule changed
+pub record Changes (w : Width) (f : ℕ → List ℕ → List ℕ) (at : ℕ) (l r : List ℕ) : Type 0 where
+  pub here : Does w f (wordsAt l at) (wordsAt r at)
+  pub only : r ≡ put l at (wordsAt r at)

@@ -1,4 +1,6 @@
 pub mod Layout
-pub mod Leaves
+pub mod Masks
+pub mod Sizes
 pub mod Schedule
+pub mod Leaves
 pub mod Programs

@@ -5,7 +5,8 @@ use Prim.Native.Nat.{ℕ, zero, suc, _+_, _-_, _*_, _/_, _%_, _^_}
 use lib.ListN.{getD}
 use lib.Bits.{bitXor, bitAnd, bitOr}
 use Rattle.fips197.specs.Aes.{range}
-use Rattle.lanes.specs.Layout.{Width, w32, w64, bits, slots, rowWidth, quarterRow, packRows, uniformRow, byteRepeat}
+use Rattle.lanes.specs.Layout.{Width, w32, w64, bits, slots, rowWidth, quarterRow}
+use Rattle.lanes.specs.Masks.{packRows, uniformRow, byteRepeat}
 
 -- what a linear program does with words: masks, shifts, remainders and the factor of a bit are constants
 pub record Ops (A : Type 0) : Type 0 where
@@ -20,7 +21,16 @@ pub record Ops (A : Type 0) : Type 0 where
 
 -- words of a width, as Rattle has them
 abbrev pub words : Width → Ops ℕ
-words w = record { const = λ m. m; xor = λ x y. bitXor x y; or = λ x y. bitOr x y; mask = λ x m. bitAnd x m; shr = λ x n. x / 2 ^ n; shl = λ x n. (x * 2 ^ n) % 2 ^ bits w; low = λ x n. x % 2 ^ n; bitTimes = λ q m x. x / 2 ^ q % 2 * m }
+words w = record {
+  const = λ m. m;
+  xor = λ x y. bitXor x y;
+  or = λ x y. bitOr x y;
+  mask = λ x m. bitAnd x m;
+  shr = λ x n. x / 2 ^ n;
+  shl = λ x n. (x * 2 ^ n) % 2 ^ bits w;
+  low = λ x n. x % 2 ^ n;
+  bitTimes = λ q m x. x / 2 ^ q % 2 * m;
+}
 
 -- a function of eight, at the places 0 to 7
 abbrev pub Eight : Type 0 → Type 0 → Type 0

@@ -5,6 +5,11 @@ ghost use lib.ListN.{length};
 use crate::w32;
 use crate::w64;
 
+// So many bytes x. A call, so that a goal says its result and not every byte.
+pub fn bytes(x: u8) -> [u8; 66] {
+    [x; 66]
+}
+
 pub fn say_answer(number: u32, kept: bool, apart: bool) {
     hex::say_count(b" -> ", number as usize);
     if !apart {
@@ -20,7 +25,7 @@ pub fn say_answer(number: u32, kept: bool, apart: bool) {
 fn say_bytes(number: u32, space: &[u8], n: usize)
     requires { ⌜ (length (now space) ≡ 66) × (n ≤ 66) ⌝ }
 {
-    let before = [0x5au8; 66];
+    let before = bytes(0x5a);
     let kept = check::same(&space[0..n], &before[0..n]);
     let apart = check::same(&space[n..], &before[n..]);
     say_answer(number, kept, apart);
@@ -67,7 +72,7 @@ pub fn crypt(bits: usize, decrypts: bool, words: usize, input: usize, output: us
     hex::say_count(b" schedule ", words);
     hex::say_count(b" input ", input);
     hex::say_count(b" output ", output);
-    let mut space = [0x5au8; 66];
+    let mut space = bytes(0x5a);
     let number = crypt_in(&mut space, bits, decrypts, words, input, output);
     say_bytes(number, &space, output);
 }
@@ -88,7 +93,7 @@ pub fn check_value(bits: usize, words: usize, output: usize)
     hex::say_count(b"check_value", bits);
     hex::say_count(b" schedule ", words);
     hex::say_count(b" output ", output);
-    let mut space = [0x5au8; 66];
+    let mut space = bytes(0x5a);
     let number = check_in(&mut space, bits, words, output);
     say_bytes(number, &space, output);
 }
@@ -96,8 +101,8 @@ pub fn check_value(bits: usize, words: usize, output: usize)
 fn door_in(space: &mut [u8], direction: u32, key: usize, input: usize, output: usize) -> u32
     requires { ⌜ (output ≤ length (now space)) × (input ≤ 65) × (key ≤ 33) ⌝ }
 {
-    let key_bytes = [0x11u8; 33];
-    let batch = [0x22u8; 65];
+    let key_bytes = bytes(0x11);
+    let batch = bytes(0x22);
     host::locker_aes(
         direction,
         &key_bytes[0..key],
@@ -113,7 +118,7 @@ pub fn door(direction: u32, key: usize, input: usize, output: usize)
     hex::say_count(b" key ", key);
     hex::say_count(b" input ", input);
     hex::say_count(b" output ", output);
-    let mut space = [0x5au8; 66];
+    let mut space = bytes(0x5a);
     let number = door_in(&mut space, direction, key, input, output);
     say_bytes(number, &space, output);
 }

@@ -1,40 +1,51 @@
 // The public calls at 32 bits, on buffers of the lengths that are given.
+use aes::w32 as public;
+use hex::w32 as digits;
+
+type Word = u32;
+
+// ---- the same at both widths
 ghost use Prim.Native.Nat.{_≤_};
 ghost use lib.ListN.{length};
 
-fn expand_in(space: &mut [u32], key: usize, words: usize) -> u32
+// Words that no call makes by chance. A call, so that a goal says its result and not every word.
+fn filled() -> [Word; 122] {
+    [0x01234567; 122]
+}
+
+fn expand_in(space: &mut [Word], key: usize, words: usize) -> u32
     requires { ⌜ (words ≤ length (now space)) × (key ≤ 33) ⌝ }
 {
-    let bytes = [0x11u8; 33];
-    aes::w32::expand(&bytes[0..key], &mut space[0..words])
+    let bytes = super::calls::bytes(0x11);
+    public::expand(&bytes[0..key], &mut space[0..words])
 }
 
 pub fn expand(key: usize, words: usize)
     requires { ⌜ (key ≤ 33) × (words ≤ 121) ⌝ }
 {
-    let before = [0x01234567u32; 122];
-    let mut space = [0x01234567u32; 122];
+    let before = filled();
+    let mut space = filled();
     let number = expand_in(&mut space, key, words);
-    let kept = hex::w32::same(&space[0..words], &before[0..words]);
-    let apart = hex::w32::same(&space[words..], &before[words..]);
+    let kept = digits::same(&space[0..words], &before[0..words]);
+    let apart = digits::same(&space[words..], &before[words..]);
     super::calls::say_answer(number, kept, apart);
 }
 
 pub fn crypt(decrypts: bool, words: usize, input: usize, output: &mut [u8]) -> u32
     requires { ⌜ (input ≤ 65) × (words ≤ 121) ⌝ }
 {
-    let schedule = [0x01234567u32; 121];
-    let batch = [0x22u8; 65];
+    let schedule = filled();
+    let batch = super::calls::bytes(0x22);
     if decrypts {
-        aes::w32::decrypt(&schedule[0..words], &batch[0..input], output)
+        public::decrypt(&schedule[0..words], &batch[0..input], output)
     } else {
-        aes::w32::encrypt(&schedule[0..words], &batch[0..input], output)
+        public::encrypt(&schedule[0..words], &batch[0..input], output)
     }
 }
 
 pub fn check_value(words: usize, output: &mut [u8]) -> u32
     requires { ⌜ words ≤ 121 ⌝ }
 {
-    let schedule = [0x01234567u32; 121];
-    aes::w32::check_value(&schedule[0..words], output)
+    let schedule = filled();
+    public::check_value(&schedule[0..words], output)
 }

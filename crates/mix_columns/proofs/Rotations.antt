@@ -5,7 +5,8 @@ use mathlib.Core.Logic.{_⊎_, inl, inr, ⊎-elim}
 use Prim.Native.Nat.{ℕ, suc, _-_, _*_, _%_, _^_, _<_}
 use native.Mathlib.Omega.{arith}
 use lib.Bits.{bitAnd, bitOr}
-use Rattle.lanes.specs.Layout.{Width, uniformRow}
+use Rattle.lanes.specs.Layout.{Width}
+use Rattle.lanes.specs.Masks.{uniformRow}
 use Rattle.lanes.specs.Programs.{words, ror, distance, rotate}
 use Rattle.lanes.proofs.Linear.{four}
 

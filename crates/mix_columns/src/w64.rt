@@ -1,47 +1,79 @@
 // The width of 64 bits: four blocks in eight words. A row has 16 bits, a column of it 4.
+ghost use Rattle.lanes.specs.Layout.{w64 as w};
+use utils::w64::QUARTER_ROW;
+use utils::w64::ROW_BITS;
+use utils::w64::UNIFORM_ROW_0F;
+use utils::w64::UNIFORM_ROW_03;
+use utils::w64::UNIFORM_ROW_3F;
+use utils::w64::UNIFORM_ROW_C0;
+use utils::w64::UNIFORM_ROW_F0;
+use utils::w64::UNIFORM_ROW_FC;
+use utils::w64::ror;
+
+type Word = u64;
+
+// ---- the same at both widths
+
 ghost use mathlib.Core.Path.{_≡_};
 ghost use Prim.Native.Nat.{_<_, _*_, _%_};
 ghost use lib.ListN.{getD};
-ghost use Rattle.lanes.specs.Layout.{w64, Does, all};
-ghost use Rattle.lanes.specs.Leaves.{mixForm, invMixForm};
+ghost use Rattle.lanes.specs.Leaves.{Does, all, mixForm, invMixForm};
 ghost use Rattle.lanes.specs.Programs.{words, rotate, firstRotates, secondRotates, sums8, mixOuter, invMixD, invMixE, sums83};
-use utils::w64::ror;
+
+// ror_distance(rows, columns) of the Rust.
+const ROR_0_1: u32 = QUARTER_ROW;
+
+const ROR_0_2: u32 = 2 * QUARTER_ROW;
+
+const ROR_0_3: u32 = 3 * QUARTER_ROW;
+
+const ROR_1_0: u32 = ROW_BITS;
+
+const ROR_1_1: u32 = ROW_BITS + QUARTER_ROW;
+
+const ROR_1_2: u32 = ROW_BITS + 2 * QUARTER_ROW;
+
+const ROR_1_3: u32 = ROW_BITS + 3 * QUARTER_ROW;
+
+const ROR_2_0: u32 = 2 * ROW_BITS;
+
+const ROR_2_2: u32 = 2 * ROW_BITS + 2 * QUARTER_ROW;
 
 // Every byte goes one row up and `form` columns to the left. The columns that pass the end of their row come round in it: a rotation by one
 // row less has them in their places, and the masks put the two together.
-fn first_rotate(x: u64, form: u32) -> u64
+fn first_rotate(x: Word, form: u32) -> Word
     requires { ⌜ form < 4 ⌝ }
-    ensures { λ r. ⌜ r ≡ rotate (words w64) w64 1 form x ⌝ }
+    ensures { λ r. ⌜ r ≡ rotate (words w) w 1 form x ⌝ }
 {
     match form {
         // rotate_rows_1
-        0 => ror(x, 16),
+        0 => ror(x, ROR_1_0),
         // rotate_rows_and_columns_1_1
-        1 => (ror(x, 20) & 0x0fff0fff0fff0fff) | (ror(x, 4) & 0xf000f000f000f000),
+        1 => (ror(x, ROR_1_1) & UNIFORM_ROW_3F) | (ror(x, ROR_0_1) & UNIFORM_ROW_C0),
         // rotate_rows_and_columns_1_2
-        2 => (ror(x, 24) & 0x00ff00ff00ff00ff) | (ror(x, 8) & 0xff00ff00ff00ff00),
+        2 => (ror(x, ROR_1_2) & UNIFORM_ROW_0F) | (ror(x, ROR_0_2) & UNIFORM_ROW_F0),
         // rotate_rows_and_columns_1_3
-        _ => (ror(x, 28) & 0x000f000f000f000f) | (ror(x, 12) & 0xfff0fff0fff0fff0),
+        _ => (ror(x, ROR_1_3) & UNIFORM_ROW_03) | (ror(x, ROR_0_3) & UNIFORM_ROW_FC),
     }
 }
 
 // Two rows up and twice `form` columns to the left, modulo four: none or two.
-fn second_rotate(x: u64, form: u32) -> u64
+fn second_rotate(x: Word, form: u32) -> Word
     requires { ⌜ form < 4 ⌝ }
-    ensures { λ r. ⌜ r ≡ rotate (words w64) w64 2 (2 * form % 4) x ⌝ }
+    ensures { λ r. ⌜ r ≡ rotate (words w) w 2 (2 * form % 4) x ⌝ }
 {
     match form {
         // rotate_rows_2
-        0 | 2 => ror(x, 32),
+        0 | 2 => ror(x, ROR_2_0),
         // rotate_rows_and_columns_2_2
-        _ => (ror(x, 40) & 0x00ff00ff00ff00ff) | (ror(x, 24) & 0xff00ff00ff00ff00),
+        _ => (ror(x, ROR_2_2) & UNIFORM_ROW_0F) | (ror(x, ROR_1_2) & UNIFORM_ROW_F0),
     }
 }
 
 // b: the state turned once.
-fn first_rotates(a: [u64; 8], form: u32) -> [u64; 8]
+fn first_rotates(a: [Word; 8], form: u32) -> [Word; 8]
     requires { ⌜ form < 4 ⌝ }
-    ensures { λ r. ⌜ r ≡ firstRotates (words w64) w64 form (λ p. getD a p 0) ⌝ }
+    ensures { λ r. ⌜ r ≡ firstRotates (words w) w form (λ p. getD a p 0) ⌝ }
 {
     [
         first_rotate(a[0], form),
@@ -56,9 +88,9 @@ fn first_rotates(a: [u64; 8], form: u32) -> [u64; 8]
 }
 
 // What is added last: c, and in the inverse e, turned twice.
-fn second_rotates(c: [u64; 8], form: u32) -> [u64; 8]
+fn second_rotates(c: [Word; 8], form: u32) -> [Word; 8]
     requires { ⌜ form < 4 ⌝ }
-    ensures { λ r. ⌜ r ≡ secondRotates (words w64) w64 form (λ p. getD c p 0) ⌝ }
+    ensures { λ r. ⌜ r ≡ secondRotates (words w) w form (λ p. getD c p 0) ⌝ }
 {
     [
         second_rotate(c[0], form),
@@ -73,8 +105,8 @@ fn second_rotates(c: [u64; 8], form: u32) -> [u64; 8]
 }
 
 // c: the state and b added.
-fn sums(a: [u64; 8], b: [u64; 8]) -> [u64; 8]
-    ensures { λ r. ⌜ r ≡ sums8 (words w64) w64 (λ p. getD a p 0) (λ p. getD b p 0) ⌝ }
+fn sums(a: [Word; 8], b: [Word; 8]) -> [Word; 8]
+    ensures { λ r. ⌜ r ≡ sums8 (words w) w (λ p. getD a p 0) (λ p. getD b p 0) ⌝ }
 {
     [
         a[0] ^ b[0],
@@ -89,8 +121,8 @@ fn sums(a: [u64; 8], b: [u64; 8]) -> [u64; 8]
 }
 
 // The result: b, twice c (each bit goes up by one, and c[7] reduces), and c turned.
-fn mix_outer(b: [u64; 8], c: [u64; 8], s: [u64; 8]) -> [u64; 8]
-    ensures { λ r. ⌜ r ≡ mixOuter (words w64) w64 (λ p. getD b p 0) (λ p. getD c p 0) (λ p. getD s p 0) ⌝ }
+fn mix_outer(b: [Word; 8], c: [Word; 8], s: [Word; 8]) -> [Word; 8]
+    ensures { λ r. ⌜ r ≡ mixOuter (words w) w (λ p. getD b p 0) (λ p. getD c p 0) (λ p. getD s p 0) ⌝ }
 {
     [
         b[0] ^ c[7] ^ s[0],
@@ -105,8 +137,8 @@ fn mix_outer(b: [u64; 8], c: [u64; 8], s: [u64; 8]) -> [u64; 8]
 }
 
 // d: the state and twice c.
-fn inv_mix_d(a: [u64; 8], c: [u64; 8]) -> [u64; 8]
-    ensures { λ r. ⌜ r ≡ invMixD (words w64) w64 (λ p. getD a p 0) (λ p. getD c p 0) ⌝ }
+fn inv_mix_d(a: [Word; 8], c: [Word; 8]) -> [Word; 8]
+    ensures { λ r. ⌜ r ≡ invMixD (words w) w (λ p. getD a p 0) (λ p. getD c p 0) ⌝ }
 {
     [
         a[0] ^ c[7],
@@ -121,8 +153,8 @@ fn inv_mix_d(a: [u64; 8], c: [u64; 8]) -> [u64; 8]
 }
 
 // e: c and four times d.
-fn inv_mix_e(c: [u64; 8], d: [u64; 8]) -> [u64; 8]
-    ensures { λ r. ⌜ r ≡ invMixE (words w64) w64 (λ p. getD c p 0) (λ p. getD d p 0) ⌝ }
+fn inv_mix_e(c: [Word; 8], d: [Word; 8]) -> [Word; 8]
+    ensures { λ r. ⌜ r ≡ invMixE (words w) w (λ p. getD c p 0) (λ p. getD d p 0) ⌝ }
 {
     [
         c[0] ^ d[6],
@@ -137,8 +169,8 @@ fn inv_mix_e(c: [u64; 8], d: [u64; 8]) -> [u64; 8]
 }
 
 // The inverse's result: d, e, and e turned.
-fn inv_mix_outer(d: [u64; 8], e: [u64; 8], s: [u64; 8]) -> [u64; 8]
-    ensures { λ r. ⌜ r ≡ sums83 (words w64) w64 (λ p. getD d p 0) (λ p. getD e p 0) (λ p. getD s p 0) ⌝ }
+fn inv_mix_outer(d: [Word; 8], e: [Word; 8], s: [Word; 8]) -> [Word; 8]
+    ensures { λ r. ⌜ r ≡ sums83 (words w) w (λ p. getD d p 0) (λ p. getD e p 0) (λ p. getD s p 0) ⌝ }
 {
     [
         d[0] ^ e[0] ^ s[0],
@@ -152,9 +184,9 @@ fn inv_mix_outer(d: [u64; 8], e: [u64; 8], s: [u64; 8]) -> [u64; 8]
     ]
 }
 
-// MixColumns on a whole state. The forms are the Rust's, after Käsper and Schwabe.
-fn mix_columns_0(state: [u64; 8]) -> [u64; 8]
-    ensures { λ r. ⌜ Does w64 (all (mixForm 0)) state r ⌝ }
+// MixColumns on a state that lacks no row shift.
+pub fn mix_columns_0(state: [Word; 8]) -> [Word; 8]
+    ensures { λ r. ⌜ Does w (all (mixForm 0)) state r ⌝ }
 {
     let b = first_rotates(state, 0); // rotate_rows_1
     let c = sums(state, b);
@@ -162,9 +194,9 @@ fn mix_columns_0(state: [u64; 8]) -> [u64; 8]
     mix_outer(b, c, s)
 }
 
-// MixColumns on a state that lacks one of FIPS-197's row shifts.
-pub fn mix_columns_1(state: [u64; 8]) -> [u64; 8]
-    ensures { λ r. ⌜ Does w64 (all (mixForm 1)) state r ⌝ }
+// MixColumns on a state that lacks one row shift.
+pub fn mix_columns_1(state: [Word; 8]) -> [Word; 8]
+    ensures { λ r. ⌜ Does w (all (mixForm 1)) state r ⌝ }
 {
     let b = first_rotates(state, 1); // rotate_rows_and_columns_1_1
     let c = sums(state, b);
@@ -173,8 +205,8 @@ pub fn mix_columns_1(state: [u64; 8]) -> [u64; 8]
 }
 
 // MixColumns on a state that lacks two.
-fn mix_columns_2(state: [u64; 8]) -> [u64; 8]
-    ensures { λ r. ⌜ Does w64 (all (mixForm 2)) state r ⌝ }
+pub fn mix_columns_2(state: [Word; 8]) -> [Word; 8]
+    ensures { λ r. ⌜ Does w (all (mixForm 2)) state r ⌝ }
 {
     let b = first_rotates(state, 2); // rotate_rows_and_columns_1_2
     let c = sums(state, b);
@@ -183,8 +215,8 @@ fn mix_columns_2(state: [u64; 8]) -> [u64; 8]
 }
 
 // MixColumns on a state that lacks three.
-fn mix_columns_3(state: [u64; 8]) -> [u64; 8]
-    ensures { λ r. ⌜ Does w64 (all (mixForm 3)) state r ⌝ }
+pub fn mix_columns_3(state: [Word; 8]) -> [Word; 8]
+    ensures { λ r. ⌜ Does w (all (mixForm 3)) state r ⌝ }
 {
     let b = first_rotates(state, 3); // rotate_rows_and_columns_1_3
     let c = sums(state, b);
@@ -192,24 +224,11 @@ fn mix_columns_3(state: [u64; 8]) -> [u64; 8]
     mix_outer(b, c, s)
 }
 
-// The form chosen by its number.
-pub fn mix_columns(state: [u64; 8], form: usize) -> [u64; 8]
-    requires { ⌜ form < 4 ⌝ }
-    ensures { λ r. ⌜ Does w64 (all (mixForm form)) state r ⌝ }
+// InvMixColumns on a state that lacks no row shift.
+pub fn inv_mix_columns_0(state: [Word; 8]) -> [Word; 8]
+    ensures { λ r. ⌜ Does w (all (invMixForm 0)) state r ⌝ }
 {
-    match form {
-        1 => mix_columns_1(state),
-        2 => mix_columns_2(state),
-        3 => mix_columns_3(state),
-        _ => mix_columns_0(state),
-    }
-}
-
-// InvMixColumns on a whole state.
-fn inv_mix_columns_0(state: [u64; 8]) -> [u64; 8]
-    ensures { λ r. ⌜ Does w64 (all (invMixForm 0)) state r ⌝ }
-{
-    let b = first_rotates(state, 0); // as in mix_columns_0
+    let b = first_rotates(state, 0);
     let c = sums(state, b);
     let d = inv_mix_d(state, c);
     let e = inv_mix_e(c, d);
@@ -218,10 +237,10 @@ fn inv_mix_columns_0(state: [u64; 8]) -> [u64; 8]
 }
 
 // InvMixColumns on a state that lacks one row shift.
-pub fn inv_mix_columns_1(state: [u64; 8]) -> [u64; 8]
-    ensures { λ r. ⌜ Does w64 (all (invMixForm 1)) state r ⌝ }
+pub fn inv_mix_columns_1(state: [Word; 8]) -> [Word; 8]
+    ensures { λ r. ⌜ Does w (all (invMixForm 1)) state r ⌝ }
 {
-    let b = first_rotates(state, 1); // as in mix_columns_1
+    let b = first_rotates(state, 1);
     let c = sums(state, b);
     let d = inv_mix_d(state, c);
     let e = inv_mix_e(c, d);
@@ -230,10 +249,10 @@ pub fn inv_mix_columns_1(state: [u64; 8]) -> [u64; 8]
 }
 
 // InvMixColumns on a state that lacks two.
-fn inv_mix_columns_2(state: [u64; 8]) -> [u64; 8]
-    ensures { λ r. ⌜ Does w64 (all (invMixForm 2)) state r ⌝ }
+pub fn inv_mix_columns_2(state: [Word; 8]) -> [Word; 8]
+    ensures { λ r. ⌜ Does w (all (invMixForm 2)) state r ⌝ }
 {
-    let b = first_rotates(state, 2); // as in mix_columns_2
+    let b = first_rotates(state, 2);
     let c = sums(state, b);
     let d = inv_mix_d(state, c);
     let e = inv_mix_e(c, d);
@@ -242,26 +261,13 @@ fn inv_mix_columns_2(state: [u64; 8]) -> [u64; 8]
 }
 
 // InvMixColumns on a state that lacks three.
-fn inv_mix_columns_3(state: [u64; 8]) -> [u64; 8]
-    ensures { λ r. ⌜ Does w64 (all (invMixForm 3)) state r ⌝ }
+pub fn inv_mix_columns_3(state: [Word; 8]) -> [Word; 8]
+    ensures { λ r. ⌜ Does w (all (invMixForm 3)) state r ⌝ }
 {
-    let b = first_rotates(state, 3); // as in mix_columns_3
+    let b = first_rotates(state, 3);
     let c = sums(state, b);
     let d = inv_mix_d(state, c);
     let e = inv_mix_e(c, d);
     let s = second_rotates(e, 3);
     inv_mix_outer(d, e, s)
-}
-
-// The form chosen by its number.
-pub fn inv_mix_columns(state: [u64; 8], form: usize) -> [u64; 8]
-    requires { ⌜ form < 4 ⌝ }
-    ensures { λ r. ⌜ Does w64 (all (invMixForm form)) state r ⌝ }
-{
-    match form {
-        1 => inv_mix_columns_1(state),
-        2 => inv_mix_columns_2(state),
-        3 => inv_mix_columns_3(state),
-        _ => inv_mix_columns_0(state),
-    }
 }

@@ -1,26 +1,34 @@
 // Two blocks in eight words of 32 bits.
+use hex::w32 as words;
+use word::w32 as packing;
 
+type Word = u32;
+
+// The bytes of a full batch.
+const BATCH: usize = 32;
+
+// ---- the same at both widths
 // A batch packed, and unpacked again.
 fn packed(digits: &[u8]) {
-    let mut bytes = [0u8; 32];
+    let mut bytes = [0u8; BATCH];
     hex::read(digits, &mut bytes);
-    let state = word::w32::bitslice(&bytes);
-    hex::w32::print(&state);
-    word::w32::inv_bitslice(state, &mut bytes);
+    let state = packing::bitslice(&bytes);
+    words::print(&state);
+    packing::inv_bitslice(state, &mut bytes);
     hex::print(&bytes);
     hex::say(b"\n");
 }
 
 // Eight words unpacked, and packed again.
 fn unpacked(digits: &[u8]) {
-    let mut state = [0u32; 8];
-    hex::w32::read(digits, &mut state);
-    let mut bytes = [0u8; 32];
-    word::w32::inv_bitslice(state, &mut bytes);
+    let mut state: [Word; 8] = [0; 8];
+    words::read(digits, &mut state);
+    let mut bytes = [0u8; BATCH];
+    packing::inv_bitslice(state, &mut bytes);
     hex::print(&bytes);
     hex::say(b"\n");
-    let again = word::w32::bitslice(&bytes);
-    hex::w32::print(&again);
+    let again = packing::bitslice(&bytes);
+    words::print(&again);
 }
 
 pub fn both_ways(digits: &[u8]) {

@@ -1,16 +1,21 @@
-// The width of 64 bits: four blocks in eight words. Word p holds bit p of every byte, so a gate on words is the gate on every byte at once.
-ghost use mathlib.Core.Path.{_≡_};
-ghost use lib.ListN.{length};
-ghost use Rattle.lanes.specs.Layout.{w64, Does, all};
-ghost use Rattle.lanes.specs.Leaves.{add63, bareSubBytes, invBareSubBytes};
+// The width of 64 bits: four blocks in eight words.
+ghost use Rattle.lanes.specs.Layout.{w64 as w};
 use utils::w64::load;
 use utils::w64::store;
 
-// SubBytes without its constant 63: the circuit of 113 gates of Boyar, Peralta and Calik
-// (http://www.cs.yale.edu/homes/peralta/CircuitStuff/SLP_AES_113.txt), in the order in which the Rust has its gates.
-// The four NOTs of the circuit, which add 63, are moved to the key schedule: `sub_bytes_nots`.
-pub fn sub_bytes(state: [u64; 8]) -> [u64; 8]
-    ensures { λ r. ⌜ Does w64 (all bareSubBytes) state r ⌝ }
+type Word = u64;
+
+// ---- the same at both widths
+
+ghost use mathlib.Core.Path.{_≡_};
+ghost use lib.ListN.{length};
+ghost use Rattle.lanes.specs.Schedule.{add63};
+ghost use Rattle.lanes.specs.Leaves.{Does, all, bareSubBytes, invBareSubBytes};
+
+// SubBytes without its constant 63: the four NOTs of the circuit, which add 63, are moved to the key schedule (`sub_bytes_nots`).
+// Word p holds bit p of every byte, so a gate on words is the gate on every byte at once.
+pub fn sub_bytes(state: [Word; 8]) -> [Word; 8]
+    ensures { λ r. ⌜ Does w (all bareSubBytes) state r ⌝ }
 {
     let u7 = state[0];
     let u6 = state[1];
@@ -138,9 +143,9 @@ pub fn sub_bytes(state: [u64; 8]) -> [u64; 8]
     [s7, s6, s5, s4, s3, s2, s1, s0]
 }
 
-// The exact inverse of `sub_bytes`: the four NOTs are accounted for here.
-pub fn inv_sub_bytes(state: [u64; 8]) -> [u64; 8]
-    ensures { λ r. ⌜ Does w64 (all invBareSubBytes) state r ⌝ }
+// The four NOTs are accounted for here, so that it is a true inverse of `sub_bytes`.
+pub fn inv_sub_bytes(state: [Word; 8]) -> [Word; 8]
+    ensures { λ r. ⌜ Does w (all invBareSubBytes) state r ⌝ }
 {
     let u7 = state[0];
     let u6 = state[1];
@@ -283,8 +288,8 @@ pub fn inv_sub_bytes(state: [u64; 8]) -> [u64; 8]
 }
 
 // The NOTs that the S-box leaves out: 63 is added to every byte.
-pub fn sub_bytes_nots(state: [u64; 8]) -> [u64; 8]
-    ensures { λ r. ⌜ Does w64 (all add63) state r ⌝ }
+pub fn sub_bytes_nots(state: [Word; 8]) -> [Word; 8]
+    ensures { λ r. ⌜ Does w (all add63) state r ⌝ }
 {
     [
         !state[0],
@@ -299,18 +304,18 @@ pub fn sub_bytes_nots(state: [u64; 8]) -> [u64; 8]
 }
 
 // `sub_bytes` on eight words of a schedule, in place.
-pub fn sub_bytes_in(part: &mut [u64])
+pub fn sub_bytes_in(part: &mut [Word])
     requires { ⌜ length (now part) ≡ 8 ⌝ }
-    ensures { λ r. ⌜ Does w64 (all bareSubBytes) (now (part .entry)) (now (part .exit)) ⌝ }
+    ensures { λ r. ⌜ Does w (all bareSubBytes) (now (part .entry)) (now (part .exit)) ⌝ }
 {
     let s = load(part);
     store(part, sub_bytes(s));
 }
 
 // `sub_bytes_nots` on eight words of a schedule, in place.
-pub fn sub_bytes_nots_in(part: &mut [u64])
+pub fn sub_bytes_nots_in(part: &mut [Word])
     requires { ⌜ length (now part) ≡ 8 ⌝ }
-    ensures { λ r. ⌜ Does w64 (all add63) (now (part .entry)) (now (part .exit)) ⌝ }
+    ensures { λ r. ⌜ Does w (all add63) (now (part .entry)) (now (part .exit)) ⌝ }
 {
     let s = load(part);
     store(part, sub_bytes_nots(s));

@@ -7,63 +7,80 @@ use native.Mathlib.Decide.{decLt}
 use native.Mathlib.Omega.{arith}
 use borrow.Author.Tests.{eq-eqb, ne-eqb}
 use lib.ListN.{take, drop, length}
-use Rattle.fips197.specs.Aes.{Fit, sixteen, roundsFor, keyWords}
-use Rattle.lanes.specs.Layout.{Width, bits, slots, Does, all}
-use Rattle.lanes.specs.Leaves.{add63, rowsUnshifted}
-use Rattle.lanes.specs.Schedule.{Changes, stored, writeKey, scheduleOf}
-use Rattle.lanes.proofs.Parts.{put-is, put-length, given-back}
-use Rattle.schedule.specs.Steps.{startKey, Keys, Adjusted}
+use Rattle.fips197.specs.Bytes.{Fit}
+use Rattle.fips197.specs.Aes.{sixteen, roundsFor, keyWords}
+use Rattle.lanes.specs.Layout.{Width, bits, slots}
+use Rattle.lanes.specs.Schedule.{add63, rowsUnshifted, stored, writeKey, scheduleOf}
+use Rattle.lanes.specs.Leaves.{Does, all}
+use Rattle.schedule.specs.Steps.{Keys, Adjusted}
 use Rattle.schedule.proofs.Reading.{schedule-is}
-use Rattle.schedule.proofs.Passes.{stored-before, stored-after, stored-here}
+use Rattle.schedule.proofs.Passes.{Changed, lent, stored-before, stored-after, stored-here}
 
 -- ---- the round keys adjusted so far
-module _ (w : Width) (f : ℕ → List ℕ → List ℕ) where
-  pub adjusted-none : (l : List ℕ) → Adjusted w f 1 l l
-  adjusted-none l = record { first = λ b h. refl; inner = λ b h r k. absurd (omega arith); outer = λ b h r k e. refl }
+-- those below r, of those below `end`
+pub record AdjustedSo (w : Width) (f : ℕ → List ℕ → List ℕ) (end r : ℕ) (l m : List ℕ) : Type 0 where
+  pub some : 1 ≤ r
+  pub few : r ≤ end
+  pub long : length m ≡ length l
+  pub done : Adjusted w f r l m
 
-  adjusted-more : (r : ℕ) {l m m′ : List ℕ} → 1 ≤ r → 8 * r + 8 ≤ length l → length m ≡ length l → length m′ ≡ length m
-      → Adjusted w f r l m → Changes w (all (f r)) (8 * r) m m′ → Adjusted w f (r + 1) l m′
-  adjusted-more r {l} {m} {m′} pos fits long long′ t d = record {
-    first = λ b h. stored-before (8 * r) (omega arith) long′ d b 0 (omega arith) ∙ t .first b h;
+module _ (w : Width) (f : ℕ → List ℕ → List ℕ) where
+  pub adjusted-none : {end : ℕ} {l : List ℕ} → 1 ≤ end → AdjustedSo w f end 1 l l
+  adjusted-none h = record {
+    some = omega arith;
+    few = h;
+    long = refl;
+    done = record { first = λ b h. refl; inner = λ b h r k. absurd (omega arith); outer = λ b h r k e. refl };
+  }
+
+  adjusted-more : (r : ℕ) {l m m′ : List ℕ} → 1 ≤ r → length m ≡ length l → Adjusted w f r l m → Changed w (all (f r)) (8 * r) m m′ → Adjusted w f (r + 1) l m′
+  adjusted-more r {l} {m} {m′} pos long t d = record {
+    first = λ b h. stored-before d b 0 (omega arith) ∙ t .first b h;
     inner = λ b h q k. more b h q k (decLt (suc q) r);
-    outer = λ b h q k e. stored-after (8 * r) (omega arith) long′ d b q (omega arith) ∙ t .outer b h q (omega arith) e;
+    outer = λ b h q k e. stored-after d b q (omega arith) ∙ t .outer b h q (omega arith) e;
   }
     where
       more : (b : ℕ) → b < slots w → (q : ℕ) → suc q < r + 1 → Dec (suc q < r) → stored w m′ b (suc q) ≡ f (suc q) (stored w l b (suc q))
-      more b h q k (yes y) = stored-before (8 * r) (omega arith) long′ d b (suc q) (omega arith) ∙ t .inner b h q y
+      more b h q k (yes y) = stored-before d b (suc q) (omega arith) ∙ t .inner b h q y
       more b h q k (no y) =
           let e : suc q ≡ r = omega arith in
-          rw e (stored-here (8 * r) (omega arith) long′ d b h r refl ∙ ap (f r) (t .outer b h r (omega arith) fits))
+          let fits : 8 * r + 8 ≤ length l = omega (arith, d .fits) in
+          rw e (stored-here d b h r refl ∙ ap (f r) (t .outer b h r (omega arith) fits))
 
-  -- the same in the shape that the borrow checker hands back, k being 8 * r + 8 - 8 * r
-  pub adjusted-lent : (r k : ℕ) {l m ws : List ℕ} → k ≡ 8 → 1 ≤ r → 8 * r + 8 ≤ length l → length m ≡ length l → length ws ≡ 8
-      → Adjusted w f r l m → Does w (all (f r)) (take k (drop (8 * r) m)) ws
-      → (length (take (8 * r) m ++ (ws ++ drop k (drop (8 * r) m))) ≡ length l) × Adjusted w f (r + 1) l (take (8 * r) m ++ (ws ++ drop k (drop (8 * r) m)))
-  adjusted-lent r k {l} {m} {ws} e pos fits long eight t d =
-      let h : 8 * r + 8 ≤ length m = omega arith in
-      let long′ : length (take (8 * r) m ++ (ws ++ drop k (drop (8 * r) m))) ≡ length m = ap length (put-is m (8 * r) k ws e) ∙ put-length m (8 * r) ws h eight in
-      (long′ ∙ long, adjusted-more r pos fits long long′ t (given-back w (8 * r) k e h eight refl refl d))
+  -- the schedule m so far, and round key r lent and given back, k being 8 * r + 8 - 8 * r
+  pub adjusted-lent : (r k : ℕ) {end : ℕ} {l m ws : List ℕ} → k ≡ 8 → r < end → 8 * r + 8 ≤ length m → length ws ≡ 8
+      → Does w (all (f r)) (take k (drop (8 * r) m)) ws → AdjustedSo w f end r l m
+      → AdjustedSo w f end (r + 1) l (take (8 * r) m ++ (ws ++ drop k (drop (8 * r) m)))
+  adjusted-lent r k e less fits eight d t =
+      let c = lent w (8 * r) k e fits eight d in
+      record { some = omega arith; few = omega arith; long = c .long ∙ t .long; done = adjusted-more r (t .some) (t .long) (t .done) c }
 
--- ---- all parts: the key in every slot, its round keys, the inverse row shifts of keys 1 to n - 1, and the NOTs of keys 1 to n
-pub whole : (w : Width) (nk n : ℕ) (key l₀ l₁ l₂ l₃ : List ℕ) → n ≡ roundsFor nk → 1 ≤ nk → length key ≡ 4 * nk → Fit 8 key
-    → length l₁ ≡ 8 * (n + 1) → length l₃ ≡ 8 * (n + 1) → Fit (bits w) l₃
-    → ((b : ℕ) → b < slots w → startKey w nk l₀ b ≡ key) → Keys w nk (n + 1) l₀ l₁ → Adjusted w (λ r. rowsUnshifted (r % 4)) n l₁ l₂ → Adjusted w (λ r. add63) (n + 1) l₂ l₃
-    → l₃ ≡ scheduleOf w nk key
-unfolding writeKey
-whole w nk n key l₀ l₁ l₂ l₃ en pos long fits e₁ e₃ fit₃ start ks ts us =
-    schedule-is w nk key pos long fits l₃ (rw en at e₃) fit₃ (λ b h r k. rw (← en) (each b h r (rw (← en) at k)))
-  where
+-- ---- all parts: the round keys, the inverse row shifts of keys 1 to n - 1, and the NOTs of keys 1 to n
+module _ (w : Width) (nk : ℕ) (key : List ℕ) (pos : 1 ≤ nk) (long : length key ≡ 4 * nk) (fits : Fit 8 key) where
+  module _ {n end : ℕ} {l₁ l₂ l₃ : List ℕ} (rounds : n ≡ roundsFor nk) (ends : end ≡ n + 1) (long₁ : length l₁ ≡ 8 * end)
+      (keys : Keys w nk (nk + 7) key l₁) (shifted : Adjusted w (λ r. rowsUnshifted (r % 4)) n l₁ l₂) (nots : Adjusted w (λ r. add63) end l₂ l₃) where
     key-there : (b : ℕ) → b < slots w → (r : ℕ) → r < n + 1 → stored w l₁ b r ≡ sixteen (keyWords nk key) r
-    key-there b h r k = ks .at b h r k (omega arith) ∙ ap (λ (x : List ℕ). sixteen (keyWords nk x) r) (start b h)
+    key-there b h r k = keys .at b h r (omega arith) (omega arith)
 
-    last : (b : ℕ) → b < slots w → (r : ℕ) → suc r < n + 1 → Dec (suc r < n) → stored w l₃ b (suc r) ≡ writeKey n (suc r) (sixteen (keyWords nk key) (suc r))
-    last b h r k (yes q) =
-        us .inner b h r k ∙ ap add63 (ts .inner b h r q ∙ ap (rowsUnshifted (suc r % 4)) (key-there b h (suc r) k))
+    -- keys 1 to n, by the test whether it is the last
+    later : (b : ℕ) → b < slots w → (r : ℕ) → suc r < n + 1 → Dec (suc r < n)
+        → stored w l₃ b (suc r) ≡ writeKey n (suc r) (sixteen (keyWords nk key) (suc r))
+    unfolding writeKey
+    later b h r k (yes q) =
+        nots .inner b h r (omega arith)
+        ∙ ap add63 (shifted .inner b h r q ∙ ap (rowsUnshifted (suc r % 4)) (key-there b h (suc r) k))
         ∙ rw (ne-eqb (suc r) n (λ e. omega arith)) refl
-    last b h r k (no q) =
-        us .inner b h r k ∙ ap add63 (ts .outer b h (suc r) (omega arith) (omega arith) ∙ key-there b h (suc r) k)
+    later b h r k (no q) =
+        nots .inner b h r (omega arith)
+        ∙ ap add63 (shifted .outer b h (suc r) (omega arith) (omega arith) ∙ key-there b h (suc r) k)
         ∙ rw (eq-eqb (suc r) n (omega arith)) refl
 
     each : (b : ℕ) → b < slots w → (r : ℕ) → r < n + 1 → stored w l₃ b r ≡ writeKey n r (sixteen (keyWords nk key) r)
-    each b h zero k = us .first b h ∙ ts .first b h ∙ key-there b h 0 k
-    each b h (suc r) k = last b h r k (decLt (suc r) n)
+    unfolding writeKey
+    each b h zero k = nots .first b h ∙ shifted .first b h ∙ key-there b h 0 k
+    each b h (suc r) k = later b h r k (decLt (suc r) n)
+
+    pub whole : length l₃ ≡ length l₁ → Fit (bits w) l₃ → l₃ ≡ scheduleOf w nk key
+    whole e₃ fit₃ =
+        schedule-is w nk key pos long fits l₃ (e₃ ∙ long₁ ∙ ap (λ (m : ℕ). 8 * m) (rw rounds at ends)) fit₃
+        (λ b h r k. rw (← rounds) (each b h r (rw (← rounds) at k)))

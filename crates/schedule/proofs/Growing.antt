@@ -1,80 +1,82 @@
--- The round keys so far, once over the width and the key's length: each step leaves one more, by FIPS-197's rule for round keys. Assumes
--- nothing.
-use mathlib.Core.Path.{_≡_, refl, sym, ap, ap₂, _∙_}
+-- The round keys so far, once over the width and the key's length: the key's own blocks come first, and each step leaves one more, by FIPS-197's
+-- rule for round keys. Assumes nothing.
+use mathlib.Core.Path.{_≡_, refl, sym, ap, ap₂, _∙_, subst}
 use mathlib.Core.List.{List, _++_}
 use Prim.Native.Nat.{ℕ, zero, suc, _+_, _-_, _*_, _≤_, _<_}
 use native.Mathlib.Decide.{decLt}
 use native.Mathlib.Omega.{arith}
-use lib.ListN.{getD, take, drop, length, length-append}
-use lib.Seq.{take-all, take-at, drop-at, take-add, take-take, length-take-le}
-use Rattle.fips197.specs.Aes.{sixteen, roundConstants, roundsFor, keyWords}
+use lib.ListN.{getD, take, drop, length}
+use Rattle.fips197.specs.Aes.{sixteen, roundConstants, keyWords}
 use Rattle.fips197.proofs.Keys.{key-first}
 use Rattle.lanes.specs.Layout.{Width, slots, slot}
-use Rattle.lanes.specs.Leaves.{keyColumns}
-use Rattle.lanes.specs.Schedule.{wordsAt, Changes, stored}
-use Rattle.lanes.proofs.Packing.{stored-block}
-use Rattle.schedule.specs.Steps.{keyPass, nextOf, startKey, InTurn, stepConstant, stepRows, Keys, Grows}
+use Rattle.lanes.specs.Schedule.{stored}
+use Rattle.lanes.specs.Leaves.{keyColumns, Changes}
+use Rattle.schedule.specs.Steps.{Follows, keyPass, nextOf, stepConstant, stepRows, Loaded, Keys, Grows}
 use Rattle.schedule.proofs.RoundKeys.{sixteen-take, next-constant, next-plain}
-use Rattle.schedule.proofs.Passes.{stored-before, stored-here}
+use Rattle.schedule.proofs.Passes.{Changed, lent, stored-before, stored-here}
 
--- ---- the round keys so far
--- the key that stands in a slot
-start-length : (w : Width) (nk : ℕ) → nk ≤ 8 → (l : List ℕ) (b : ℕ) → length (startKey w nk l b) ≡ 4 * nk
-start-length w nk h l b =
-    length-take-le (4 * nk) (stored w l b 0 ++ stored w l b 1)
-    (rw (length-append (stored w l b 0) (stored w l b 1), stored-block w l b 0 .long, stored-block w l b 1 .long) (omega arith))
+-- ---- the blocks of the key, in every slot
+-- i of m so far
+pub record LoadedSo (w : Width) (m i : ℕ) (key l₀ l : List ℕ) : Type 0 where
+  pub few : i ≤ m
+  pub long : length l ≡ length l₀
+  pub done : Loaded w i key l
 
-two-sixteens : (p q : List ℕ) → length p ≡ 16 → length q ≡ 16 → (sixteen (p ++ q) 0 ≡ p) × (sixteen (p ++ q) 1 ≡ q)
-two-sixteens p q e f = (take-at p q 16 e, rw (drop-at p q 16 e) (take-all 16 q (omega arith)))
+pub loaded-none : {w : Width} {m : ℕ} {key l : List ℕ} → LoadedSo w m 0 key l l
+loaded-none = record { few = omega arith; long = refl; done = record { at = λ b h r k. absurd (omega arith) } }
 
--- it is the first round keys
-start-sixteen : (w : Width) (nk : ℕ) → 1 ≤ nk → nk ≤ 8 → (l : List ℕ) (b r : ℕ) → 16 * r + 16 ≤ 4 * nk → stored w l b r ≡ sixteen (keyWords nk (startKey w nk l b)) r
-start-sixteen w nk p h l b r k =
-    sym (sym (sixteen-take (keyWords nk (startKey w nk l b)) (4 * nk) r k)
-    ∙ ap (λ (s : List ℕ). sixteen s r) (key-first nk (startKey w nk l b) p (start-length w nk h l b))
-    ∙ sixteen-take (stored w l b 0 ++ stored w l b 1) (4 * nk) r k
-    ∙ at r (omega arith))
+-- block i broadcast to s, and s stored: j is 16 * i + 16 - 16 * i, and k is 8 * i + 8 - 8 * i
+pub loaded-lent : (w : Width) (i j k : ℕ) {m : ℕ} {key l₀ l s : List ℕ} (ws : List ℕ) → j ≡ 16 → k ≡ 8 → i < m → 8 * i + 8 ≤ length l → length ws ≡ 8
+    → ((b : ℕ) → b < slots w → slot w s b ≡ take j (drop (16 * i) key)) → ws ≡ s → LoadedSo w m i key l₀ l
+    → LoadedSo w m (i + 1) key l₀ (take (8 * i) l ++ (ws ++ drop k (drop (8 * i) l)))
+loaded-lent w i j k {key = key} {l₀} {l} ws ej ek less fits eight each kept t =
+    record { few = omega arith; long = d .long ∙ t .long; done = record { at = λ b h r y. more b h r y (decLt r i) } }
   where
-    at : (r : ℕ) → r < 2 → sixteen (stored w l b 0 ++ stored w l b 1) r ≡ stored w l b r
-    at zero h = two-sixteens (stored w l b 0) (stored w l b 1) (stored-block w l b 0 .long) (stored-block w l b 1 .long) .0
-    at (suc zero) h = two-sixteens (stored w l b 0) (stored w l b 1) (stored-block w l b 0 .long) (stored-block w l b 1 .long) .1
-    at (suc (suc r)) h = absurd (omega arith)
+    d : Changed w (λ b x. sixteen key i) (8 * i) l (take (8 * i) l ++ (ws ++ drop k (drop (8 * i) l)))
+    d = lent w (8 * i) k ek fits eight (record {
+      each = λ b h. ap (λ (x : List ℕ). slot w x b) kept ∙ each b h ∙ ap (λ (n : ℕ). take n (drop (16 * i) key)) ej;
+    })
 
-module _ (w : Width) (nk : ℕ) (pos : 1 ≤ nk) (few : nk ≤ 8) where
-  -- n round keys are there as soon as the key is
-  pub keys-first : (n : ℕ) (l : List ℕ) → 16 * n ≤ 4 * nk → Keys w nk n l l
-  keys-first n l h = record { at = λ b c r k g. start-sixteen w nk pos few l b r (omega arith) }
+    more : (b : ℕ) → b < slots w → (r : ℕ) → r < i + 1 → Dec (r < i)
+        → stored w (take (8 * i) l ++ (ws ++ drop k (drop (8 * i) l))) b r ≡ sixteen key r
+    more b h r y (yes z) = stored-before d b r (omega arith) ∙ t .done .at b h r z
+    more b h r y (no z) =
+        let e : i ≡ r = omega arith in
+        stored-here d b h r (ap (λ (n : ℕ). 8 * n) (sym e)) ∙ ap (sixteen key) e
 
-  -- round key i + 1 is there, after a step from round key i
-  keys-more : (n m i back off p q : ℕ) (f : List ℕ → List ℕ) {l₀ l l′ : List ℕ} → off ≡ 8 * i → back ≡ 8 * m → p ≡ i + 1 → q ≡ i + 2 → 1 ≤ m → m ≤ i + 1
-      → off + 16 ≤ length l → length l′ ≡ length l
-      → ((key : List ℕ) → length key ≡ 4 * nk → sixteen (keyWords nk key) (i + 1) ≡ keyColumns n (sixteen (keyWords nk key) (i + 1 - m)) (f (sixteen (keyWords nk key) i)))
-      → Keys w nk p l₀ l → Changes w (nextOf w n f l (off + 8) back) (off + 8) l l′ → Keys w nk q l₀ l′
-  unfolding stored
-  keys-more n m i back off p q f {l₀} {l} {l′} eo em ep eq some old fits long next ks d = record { at = λ b h r k g. more b h r k g (decLt r p) }
-    where
-      more : (b : ℕ) → b < slots w → (r : ℕ) → r < q → 8 * r + 8 ≤ length l′ → Dec (r < p) → stored w l′ b r ≡ sixteen (keyWords nk (startKey w nk l₀ b)) r
-      more b h r k g (yes y) = stored-before (off + 8) (omega arith) long d b r (omega arith) ∙ ks .at b h r y (omega arith)
-      more b h r k g (no y) =
-          let e : i + 1 ≡ r = omega arith in
-          let e₁ : 8 * r ≡ off + 8 = omega arith in
-          let e₂ : off + 8 - back ≡ 8 * (i + 1 - m) = omega arith in
-          let e₃ : off + 8 - 8 ≡ 8 * i = omega arith in
-          stored-here (off + 8) (omega arith) long d b h r e₁
-          ∙ ap₂ (λ (p t : ℕ). keyColumns n (slot w (wordsAt l p) b) (f (slot w (wordsAt l t) b))) e₂ e₃
-          ∙ ap₂ (λ (p t : List ℕ). keyColumns n p (f t)) (ks .at b h (i + 1 - m) (omega arith) (omega arith)) (ks .at b h i (omega arith) (omega arith))
-          ∙ sym (next (startKey w nk l₀ b) (start-length w nk few l₀ b))
-          ∙ ap (sixteen (keyWords nk (startKey w nk l₀ b))) e
+-- they are the first round keys
+pub loaded-keys : (w : Width) (m : ℕ) {key l : List ℕ} → 1 ≤ m → length key ≡ 4 * (4 * m) → Loaded w m key l → Keys w (4 * m) m key l
+loaded-keys w m {key} some long t = record {
+  at = λ b h r k fits.
+      t .at b h r k
+      ∙ ap (λ (s : List ℕ). sixteen s r) (sym (key-first (4 * m) key (omega arith) long))
+      ∙ sixteen-take (keyWords (4 * m) key) (4 * (4 * m)) r (omega arith);
+}
 
-  -- round constant j: round key i + 1 begins at j + 1 times Nk words
-  keys-constant : (m i j back off p q : ℕ) {c : ℕ} {l₀ l l′ : List ℕ} → nk ≡ 4 * m → 4 * (i + 1) ≡ (j + 1) * nk → m ≤ i + 1 → i < roundsFor nk
-      → off ≡ 8 * i → back ≡ 8 * m → p ≡ i + 1 → q ≡ i + 2 → off + 16 ≤ length l → length l′ ≡ length l → c ≡ getD roundConstants j 0
-      → Keys w nk p l₀ l → Changes w (nextOf w 1 (keyPass c) l (off + 8) back) (off + 8) l l′ → Keys w nk q l₀ l′
-  keys-constant m i j back off p q {c} four at old more eo em ep eq fits long ec =
-      keys-more 1 m i back off p q (keyPass c) eo em ep eq (omega arith) old fits long
-      (λ key e. rw ec (next-constant nk key pos e m four i old more j at))
+-- ---- one round key more
+-- round key r is there, after a step from round keys r - 1 and r - m
+keys-more : (w : Width) (nk n m r : ℕ) (f : List ℕ → List ℕ) {key l l′ : List ℕ} → Follows m r (length l)
+    → sixteen (keyWords nk key) r ≡ keyColumns n (sixteen (keyWords nk key) (r - m)) (f (sixteen (keyWords nk key) (r - 1)))
+    → Keys w nk r key l → Changed w (nextOf w n f l r m) (8 * r) l l′ → Keys w nk (r + 1) key l′
+keys-more w nk n m r f {key} {l} {l′} follows rule ks d = record { at = λ b h q k g. more b h q k g (decLt q r) }
+  where
+    more : (b : ℕ) → b < slots w → (q : ℕ) → q < r + 1 → 8 * q + 8 ≤ length l′ → Dec (q < r) → stored w l′ b q ≡ sixteen (keyWords nk key) q
+    more b h q k g (yes y) = stored-before d b q (omega arith) ∙ ks .at b h q y (omega (arith, d .long))
+    more b h q k g (no y) =
+        let e : r ≡ q = omega arith in
+        let some = follows .some in
+        let old = follows .old in
+        let room = follows .room in
+        stored-here d b h q (ap (λ (n : ℕ). 8 * n) (sym e))
+        ∙ ap₂ (λ (p t : List ℕ). keyColumns n p (f t)) (ks .at b h (r - m) (omega arith) (omega arith)) (ks .at b h (r - 1) (omega arith) (omega arith))
+        ∙ sym rule
+        ∙ ap (sixteen (keyWords nk key)) e
 
--- ---- what a step adds and turns
+-- the schedule ends before key p: there are no more
+keys-end : {w : Width} {nk : ℕ} (p q : ℕ) {key l : List ℕ} → length l ≤ 8 * p → Keys w nk p key l → Keys w nk q key l
+keys-end p q h ks = record { at = λ b c r k g. ks .at b c r (omega arith) g }
+
+-- ---- what a step adds and rotates
 pub constant-later : (j p : ℕ) → (p ≡ 0 → ⊥) → 0 ≡ stepConstant j p
 unfolding stepConstant
 constant-later j zero h = absurd (h refl)
@@ -90,83 +92,101 @@ unfolding stepRows
 rows-few zero e = omega arith
 rows-few (suc p) e = omega arith
 
--- ---- a turn, once over the key's length
--- it begins at a multiple of Nk words and not before the first m keys end, the next one begins m keys later, and it has one of the ten constants
+-- ---- the m steps of one round constant, once over the key's length
+-- round constant j comes into round key `from`, which begins at j + 1 times Nk words
+pub record Begins (m from j : ℕ) : Type 0 where
+  pub some : 1 ≤ m
+  pub few : m ≤ 2
+  pub begins : from ≡ (j + 1) * m
+
 two : (P : ℕ → Type 0) → P 1 → P 2 → (m : ℕ) → 1 ≤ m → m ≤ 2 → P m
 two P p q zero h k = absurd (omega arith)
 two P p q (suc zero) h k = p
 two P p q (suc (suc zero)) h k = q
 two P p q (suc (suc (suc m))) h k = absurd (omega arith)
 
-turn-facts : (m from j : ℕ) → 1 ≤ m → m ≤ 2 → from ≡ (j + 1) * m
-    → (4 * from ≡ (j + 1) * (4 * m)) × (m ≤ from) × (from + m ≡ (j + 1 + 1) * m) × (8 * from < 8 * (4 * m + 7) → j < 10)
-turn-facts m from j some few =
-    two (λ (m : ℕ). from ≡ (j + 1) * m → (4 * from ≡ (j + 1) * (4 * m)) × (m ≤ from) × (from + m ≡ (j + 1 + 1) * m) × (8 * from < 8 * (4 * m + 7) → j < 10))
-    (λ e. (omega arith, omega arith, omega arith, λ h. omega arith)) (λ e. (omega arith, omega arith, omega arith, λ h. omega arith)) m some few
+module _ {m from j : ℕ} (t : Begins m from j) where
+  -- that is at a multiple of Nk words,
+  begins-words : 4 * from ≡ (j + 1) * (4 * m)
+  begins-words = two (λ (m : ℕ). from ≡ (j + 1) * m → 4 * from ≡ (j + 1) * (4 * m)) (λ e. omega arith) (λ e. omega arith) m (t .some) (t .few) (t .begins)
 
-module _ {m from j n : ℕ} (t : InTurn m from j n) where
-  pub turn-constant : j < 10
-  turn-constant = turn-facts m from j (t .some) (t .few) (t .begins) .3 (omega (arith, t .there, t .long))
+  -- not before the first m keys end,
+  pub begins-late : m ≤ from
+  begins-late = two (λ (m : ℕ). from ≡ (j + 1) * m → m ≤ from) (λ e. omega arith) (λ e. omega arith) m (t .some) (t .few) (t .begins)
 
-  pub turn-late : m ≤ from
-  turn-late = turn-facts m from j (t .some) (t .few) (t .begins) .1
+  -- and the next one begins m keys later
+  pub begins-next : Begins m (from + m) (j + 1)
+  begins-next = record {
+    some = t .some;
+    few = t .few;
+    begins = two (λ (m : ℕ). from ≡ (j + 1) * m → from + m ≡ (j + 1 + 1) * m) (λ e. omega arith) (λ e. omega arith) m (t .some) (t .few) (t .begins);
+  }
 
-  pub turn-next : from + m ≡ (j + 1 + 1) * m
-  turn-next = turn-facts m from j (t .some) (t .few) (t .begins) .2
+  -- there are ten constants, or seven, until the schedule ends
+  pub begins-constant : from < 4 * m + 7 → j < 10
+  begins-constant h =
+      two (λ (m : ℕ). from ≡ (j + 1) * m → from < 4 * m + 7 → j < 10) (λ e h. omega arith) (λ e h. omega arith) m (t .some) (t .few) (t .begins) h
 
-pub turn-same : {m from j n k : ℕ} → k ≡ n → InTurn m from j n → InTurn m from j k
-turn-same {m} {from} {j} e t = rw e t
+-- the first of them
+pub begins-first : {m : ℕ} → 1 ≤ m → m ≤ 2 → Begins m m 0
+begins-first {m} some few = record { some = some; few = few; begins = two (λ (m : ℕ). m ≡ (0 + 1) * m) (omega arith) (omega arith) m some few }
 
--- key p of it: the first has round constant j, and only AES-256 has a second
-keys-step : (w : Width) (m j from p : ℕ) {c n : ℕ} {l₀ l l′ : List ℕ} → 1 ≤ m → m ≤ 2 → p < m → from ≡ (j + 1) * m → 8 * (from + p) < length l → length l ≡ 8 * (4 * m + 7) → length l′ ≡ length l
-    → c ≡ stepConstant j p → n ≡ stepRows p → Keys w (4 * m) (from + p) l₀ l
-    → Changes w (nextOf w n (keyPass c) l (8 * (from + p) - 8 + 8) (8 * m)) (8 * (from + p) - 8 + 8) l l′ → Keys w (4 * m) (from + (p + 1)) l₀ l′
+-- key p of them: the first has round constant j, and only AES-256 has a second
+keys-step : (w : Width) (m j from p : ℕ) {c n : ℕ} {key l l′ : List ℕ} → Begins m from j → p < m → from + p < 4 * m + 7
+    → length key ≡ 4 * (4 * m) → Follows m (from + p) (length l) → c ≡ stepConstant j p → n ≡ stepRows p
+    → Keys w (4 * m) (from + p) key l → Changed w (nextOf w n (keyPass c) l (from + p) m) (8 * (from + p)) l l′ → Keys w (4 * m) (from + p + 1) key l′
 unfolding stepConstant stepRows
-keys-step w m j from zero some few h e fits le long ec en ks d =
-    let t = turn-facts m from j some few e in
-    let low : m ≤ from = t .1 in
-    let f : from - 1 + 1 ≡ from = omega arith in
-    keys-constant w (4 * m) (omega arith) (omega arith) m (from - 1) j (8 * m) (8 * (from + 0) - 8) (from + 0) (from + (0 + 1)) refl (ap (λ (q : ℕ). 4 * q) f ∙ t .0) (omega arith) (omega arith)
-    (omega arith) refl (omega arith) (omega arith) (omega arith) long ec ks (rw en at d)
-keys-step w zero j from (suc p) some few h e fits le long ec en ks d = absurd (omega arith)
-keys-step w (suc zero) j from (suc p) some few h e fits le long ec en ks d = absurd (omega arith)
-keys-step w (suc (suc zero)) j from (suc zero) some few h e fits le long ec en ks d =
-    keys-more w 8 (omega arith) (omega arith) 0 2 from 16 (8 * (from + 1) - 8) (from + 1) (from + (1 + 1)) (keyPass 0) (omega arith) refl refl (omega arith) (omega arith) (omega arith) (omega arith) long
-    (λ key f. next-plain 8 key (omega arith) f 2 refl from (omega arith) (omega arith) refl (j + 1) (omega arith)) ks (rw (en, ec) at d)
-keys-step w (suc (suc zero)) j from (suc (suc p)) some few h e fits le long ec en ks d = absurd (omega arith)
-keys-step w (suc (suc (suc m))) j from (suc p) some few h e fits le long ec en ks d = absurd (omega arith)
+keys-step w m j from zero {key = key} t h there long follows ec en ks d =
+    let e : from + 0 ≡ from = omega arith in
+    let some = t .some in
+    keys-more w (4 * m) 1 m (from + 0) (keyPass (getD roundConstants j 0)) follows
+    (next-constant (4 * m) key (omega arith) long m refl (from + 0) (follows .old) (omega arith) j (rw e (begins-words t)))
+    ks (rw (en, ec) at d)
+keys-step w zero j from (suc p) t h there long follows ec en ks d = absurd (omega arith)
+keys-step w (suc zero) j from (suc p) t h there long follows ec en ks d = absurd (omega arith)
+keys-step w (suc (suc zero)) j from (suc zero) {key = key} t h there long follows ec en ks d =
+    keys-more w 8 0 2 (from + 1) (keyPass 0) follows
+    (next-plain 8 key (omega arith) long 2 refl (from + 1) (follows .old) (omega arith) refl (j + 1) (omega (arith, t .begins)))
+    ks (rw (en, ec) at d)
+keys-step w (suc (suc zero)) j from (suc (suc p)) t h there long follows ec en ks d = absurd (omega arith)
+keys-step w (suc (suc (suc m))) j from (suc p) t h there long follows ec en ks d = absurd (omega (arith, t .few))
 
--- the schedule ends before key p: there are no more
-pub keys-end : {w : Width} {nk : ℕ} (p q : ℕ) {l₀ l : List ℕ} → length l ≤ 8 * p → Keys w nk p l₀ l → Keys w nk q l₀ l
-keys-end p q h ks = record { at = λ b c r k g. ks .at b c r (omega arith) g }
+-- ---- the loops: where l has the first p round keys of a key, m has the first q, and it is as long
+pub record Grown (w : Width) (nk p q : ℕ) (l m : List ℕ) : Type 0 where
+  pub long : length m ≡ length l
+  pub grows : Grows w nk p q l m
 
--- so one step of the turn leaves one key more, or there was no room for it
-pub grows-step : (w : Width) (m j from p : ℕ) {c n : ℕ} {l l′ : List ℕ} → InTurn m from j (length l) → p < m → 8 * (from + p) < length l → length l′ ≡ length l
-    → c ≡ stepConstant j p → n ≡ stepRows p
-    → Changes w (nextOf w n (keyPass c) l (8 * (from + p) - 8 + 8) (8 * m)) (8 * (from + p) - 8 + 8) l l′ → Grows w (4 * m) (from + p) (from + (p + 1)) l l′
-grows-step w m j from p t h fits long ec en d = record { more = λ l₀ ks. keys-step w m j from p (t .some) (t .few) h (t .begins) fits (t .long) long ec en ks d }
+pub grown-none : {w : Width} {nk p q : ℕ} {l : List ℕ} → p ≡ q → Grown w nk p q l l
+grown-none {w} {nk} {l = l} e = record { long = refl; grows = record { more = λ key f ks. subst (λ (n : ℕ). Keys w nk n key l) e ks } }
 
-pub grows-end : {w : Width} {nk : ℕ} (p q : ℕ) {l : List ℕ} → length l ≤ 8 * p → Grows w nk p q l l
-grows-end p q h = record { more = λ l₀ ks. keys-end p q h ks }
+pub grown-on : {w : Width} {nk p q r : ℕ} {k l m : List ℕ} → Grown w nk p q k l → Grown w nk q r l m → Grown w nk p r k m
+grown-on f g = record { long = g .long ∙ f .long; grows = record { more = λ key e ks. g .grows .more key e (f .grows .more key e ks) } }
 
-pub grows-none : {w : Width} {nk p : ℕ} {l : List ℕ} → Grows w nk p (p + 0) l l
-grows-none {p = p} = let e : p + 0 ≡ p = omega arith in record { more = λ l₀ ks. rw e ks }
+-- known by an equation
+pub grown-at : {w : Width} {nk p q : ℕ} {k l m : List ℕ} → m ≡ l → Grown w nk p q k l → Grown w nk p q k m
+grown-at {w} {nk} {p} {q} {k} e g = subst (Grown w nk p q k) (sym e) g
 
-pub grows-on : {w : Width} {nk p q r : ℕ} {k l m : List ℕ} → Grows w nk p q k l → Grows w nk q r l m → Grows w nk p r k m
-grows-on f g = record { more = λ l₀ ks. g .more l₀ (f .more l₀ ks) }
+-- one step
+pub grown-step : {w : Width} {m j from p c n : ℕ} {l l′ : List ℕ} → Begins m from j → p < m → from + p < 4 * m + 7 → Follows m (from + p) (length l)
+    → c ≡ stepConstant j p → n ≡ stepRows p → length l′ ≡ length l → Changes w (nextOf w n (keyPass c) l (from + p) m) (8 * (from + p)) l l′
+    → Grown w (4 * m) (from + p) (from + p + 1) l l′
+grown-step {w} {m} {j} {from} {p} t h there follows ec en long d = record {
+  long = long;
+  grows = record {
+    more = λ key e ks. keys-step w m j from p t h there e follows ec en ks (record { fits = follows .room; long = long; change = d });
+  };
+}
 
--- ---- the key in every slot
--- sixteen bytes,
-pub start-16 : (w : Width) {key l l₀ : List ℕ} → length key ≡ 16 → 8 ≤ length l → length l₀ ≡ length l → Changes w (λ b x. key) 0 l l₀
-    → (b : ℕ) → b < slots w → startKey w 4 l₀ b ≡ key
-start-16 w {key} {l} {l₀} e fits long d b h =
-    let f : stored w l₀ b 0 ≡ key = stored-here 0 (omega arith) long d b h 0 refl in
-    rw f (take-at key (stored w l₀ b 1) 16 e)
+-- no room for one
+pub grown-end : {w : Width} {nk p q : ℕ} {l : List ℕ} → length l ≤ 8 * p → Grown w nk p q l l
+grown-end {p = p} {q = q} h = record { long = refl; grows = record { more = λ key e ks. keys-end p q h ks } }
 
--- or twice sixteen
-pub start-32 : (w : Width) {key l l₁ l₀ : List ℕ} → length key ≡ 32 → 16 ≤ length l → length l₁ ≡ length l → length l₀ ≡ length l₁
-    → Changes w (λ b x. take 16 key) 0 l l₁ → Changes w (λ b x. take 16 (drop 16 key)) 8 l₁ l₀ → (b : ℕ) → b < slots w → startKey w 8 l₀ b ≡ key
-start-32 w {key} {l} {l₁} {l₀} e fits long long′ d d′ b h =
-    let p : stored w l₀ b 0 ≡ take 16 key = stored-before 8 (omega arith) long′ d′ b 0 (omega arith) ∙ stored-here 0 (omega arith) long d b h 0 refl in
-    let q : stored w l₀ b 1 ≡ take 16 (drop 16 key) = stored-here 8 (omega arith) long′ d′ b h 1 refl in
-    rw (p, q, ← take-add 16 16 key, take-take 32 32 key (omega arith)) (take-all 32 key (omega arith))
+-- before the steps of a round constant, and before step p of them
+pub record AtConstant (w : Width) (m from j : ℕ) (l₀ l : List ℕ) : Type 0 where
+  pub begins : Begins m from j
+  pub bound : from ≤ 16
+  pub grown : Grown w (4 * m) m from l₀ l
+
+pub record AtStep (w : Width) (m from p : ℕ) (l₀ l : List ℕ) : Type 0 where
+  pub few : p ≤ m
+  pub grown : Grown w (4 * m) from (from + p) l₀ l

@@ -1,6 +1,6 @@
 -- leaves first
+mod KeySizes
 mod RoundKeys
-mod Eights
 pub mod Reading
 pub mod Cases
 mod Passes

@@ -1,57 +1,23 @@
 -- Reading a schedule undoes writing it, round key by round key; so the schedule of a key reads as FIPS-197's round keys in every slot, and no
 -- other words of the width do: unpacking loses nothing, and neither does the rule of a round key. Assumes nothing.
-use mathlib.Core.Path.{_≡_, refl, sym, ap, ap₂, _∙_}
-use mathlib.Core.Bool.{Bool, true, false}
-use mathlib.Core.List.{List, [], _∷_, map}
-use Prim.Native.Nat.{ℕ, zero, suc, _+_, _*_, _%_, _≤_, _<_}
-use native.Mathlib.Nat.{zero-add, zero-lt-suc, mod-lt}
+use mathlib.Core.Path.{_≡_, sym, ap, _∙_}
+use mathlib.Core.List.{List, [], map}
+use Prim.Native.Nat.{ℕ, zero, suc, _+_, _*_, _≤_, _<_}
+use native.Mathlib.Nat.{zero-add, zero-lt-suc}
 use native.Mathlib.Omega.{arith}
-use lib.Dec.{eqb}
 use lib.ListN.{getD, drop, length}
-use Rattle.fips197.specs.Aes.{range, Fit, Block, choose, sixteen, roundsFor, keyWords, keyExpansion}
-use Rattle.fips197.proofs.Blocks.{chosen, fit-take, fit-drop}
+use Rattle.fips197.specs.Bytes.{Fit}
+use Rattle.fips197.specs.Aes.{range, sixteen, roundsFor, keyWords, keyExpansion}
+use Rattle.fips197.proofs.Blocks.{fit-take, fit-drop}
 use Rattle.fips197.proofs.Keys.{key-at, key-block, expansion-one}
 use Rattle.lanes.specs.Layout.{Width, w32, w64, bits, slots, slot, pack, eachSlot}
-use Rattle.lanes.specs.Leaves.{add63, rowsShifted, rowsUnshifted}
 use Rattle.lanes.specs.Schedule.{wordsAt, stored, readKey, reading, writeKey, scheduleOf}
 use Rattle.lanes.proofs.Packing.{slot-pack, slots-one, pack-length, pack-fits, stored-block}
 use Rattle.lanes.proofs.Parts.{words-length}
-use Rattle.lanes.proofs.Rows.{add63-block, unshifted-block, add63-twice, shifted-unshifted, unshifted-shifted}
-use Rattle.schedule.proofs.Eights.{parts-length, parts-fit, parts-at, eights-one}
-
--- ---- one round key
--- both ways of the rule, by the test whether it is the last key
-choose-choose : (t : Bool) (f g h k : List ℕ → List ℕ) (s : List ℕ) → f (h s) ≡ s → g (k s) ≡ s → choose t (f (choose t (h s) (k s))) (g (choose t (h s) (k s))) ≡ s
-choose-choose true f g h k s p q = p
-choose-choose false f g h k s p q = q
-
-module _ (n : ℕ) where
-  pub write-block : (r : ℕ) {k : List ℕ} → Block k → Block (writeKey n r k)
-  unfolding writeKey
-  write-block zero b = b
-  write-block (suc r) b = chosen Block (eqb (suc r) n) (add63-block b) (add63-block (unshifted-block (suc r % 4) b))
-
-  pub read-write : (r : ℕ) {k : List ℕ} → Block k → readKey n r (writeKey n r k) ≡ k
-  unfolding readKey writeKey
-  read-write zero b = refl
-  read-write (suc r) {k} b =
-      let j : ℕ = suc r % 4 in
-      choose-choose (eqb (suc r) n) add63 (λ s. rowsShifted j (add63 s)) add63 (λ s. add63 (rowsUnshifted j s)) k (add63-twice k)
-      (ap (rowsShifted j) (add63-twice (rowsUnshifted j k)) ∙ shifted-unshifted b j (mod-lt (suc r) (zero-lt-suc 3)))
-
-  pub write-read : (r : ℕ) {k : List ℕ} → Block k → writeKey n r (readKey n r k) ≡ k
-  unfolding readKey writeKey
-  write-read zero b = refl
-  write-read (suc r) {k} b =
-      let j : ℕ = suc r % 4 in
-      choose-choose (eqb (suc r) n) add63 (λ s. add63 (rowsUnshifted j s)) add63 (λ s. rowsShifted j (add63 s)) k (add63-twice k)
-      (ap add63 (unshifted-shifted (add63-block b) j (mod-lt (suc r) (zero-lt-suc 3))) ∙ add63-twice k)
+use Rattle.lanes.proofs.EqualParts.{joined-length, joined-at, joined-fit, joined-same, parts-one}
+use Rattle.lanes.proofs.KeyRule.{write-block, read-write, write-read}
 
 -- ---- a list of round keys
-map-same : {A : Type 0} (f g : ℕ → A) (n i : ℕ) → ((r : ℕ) → r < i + n → f r ≡ g r) → map f (range i n) ≡ map g (range i n)
-map-same f g zero i h = refl
-map-same f g (suc n) i h = ap₂ _∷_ (h i (omega arith)) (map-same f g n (suc i) (λ r k. h r (omega arith)))
-
 map-at : {A : Type 0} (f : ℕ → A) (d : A) (n i r : ℕ) → r < n → getD (map f (range i n)) r d ≡ f (i + r)
 map-at f d zero i r h = absurd (omega arith)
 map-at f d (suc n) i zero h = let e : i ≡ i + 0 = omega arith in ap f e
@@ -69,10 +35,13 @@ words-fit l at f = fit-take 8 (drop at l) (fit-drop at l f)
 -- words of the width with the same round keys in every slot are the same
 pub stored-one : (w : Width) (n : ℕ) (l m : List ℕ) → length l ≡ 8 * n → Fit (bits w) l → length m ≡ 8 * n → Fit (bits w) m
     → ((b : ℕ) → b < slots w → (r : ℕ) → r < n → stored w l b r ≡ stored w m b r) → l ≡ m
-unfolding stored
+unfolding stored wordsAt
 stored-one w n l m e f e′ f′ h =
-    eights-one n l m e e′ (λ r k.
-    slots-one w (words-length l (8 * r) (omega arith)) (words-fit l (8 * r) f) (words-length m (8 * r) (omega arith)) (words-fit m (8 * r) f′) (λ b c. h b c r k))
+    parts-one 8 n l m e e′ (λ r k.
+    slots-one w
+    (words-length l (8 * r) (omega arith)) (words-fit l (8 * r) f)
+    (words-length m (8 * r) (omega arith)) (words-fit m (8 * r) f′)
+    (λ b c. h b c r k))
 
 pub reading-one : (w : Width) (n : ℕ) (l m : List ℕ) → length l ≡ 8 * (n + 1) → Fit (bits w) l → length m ≡ 8 * (n + 1) → Fit (bits w) m
     → ((b : ℕ) → b < slots w → reading w n l b ≡ reading w n m b) → l ≡ m
@@ -89,41 +58,48 @@ module _ (w : Width) (nk : ℕ) (key : List ℕ) where
 
   pub schedule-length : length (scheduleOf w nk key) ≡ 8 * (roundsFor nk + 1)
   unfolding scheduleOf
-  schedule-length = parts-length keyPart (λ r. pack-length w _) (roundsFor nk + 1) 0
+  schedule-length = joined-length 8 keyPart (roundsFor nk + 1) 0 (λ r h. pack-length w _)
 
   pub schedule-fits : Fit (bits w) (scheduleOf w nk key)
   unfolding scheduleOf
-  schedule-fits = parts-fit keyPart (λ r. pack-length w _) (λ r. pack-fits w _) (roundsFor nk + 1) 0
+  schedule-fits = joined-fit keyPart (roundsFor nk + 1) 0 (λ r h. pack-fits w _)
 
 module _ (w : Width) (nk : ℕ) (key : List ℕ) (pos : 1 ≤ nk) (long : length key ≡ 4 * nk) (fits : Fit 8 key) where
   -- each slot holds the round key as it is written
-  pub schedule-stored : (b : ℕ) → b < slots w → (r : ℕ) → r < roundsFor nk + 1 → stored w (scheduleOf w nk key) b r ≡ writeKey (roundsFor nk) r (sixteen (keyWords nk key) r)
-  unfolding scheduleOf stored
+  pub schedule-stored : (b : ℕ) → b < slots w → (r : ℕ) → r < roundsFor nk + 1
+      → stored w (scheduleOf w nk key) b r ≡ writeKey (roundsFor nk) r (sixteen (keyWords nk key) r)
+  unfolding scheduleOf stored wordsAt
   schedule-stored b c r h =
       let k : List ℕ = getD (keyExpansion nk key) r [] in
       let e : k ≡ sixteen (keyWords nk key) r = key-at nk key r h in
-      ap (λ (ws : List ℕ). slot w ws b) (parts-at (keyPart w nk key) (λ r. pack-length w _) (roundsFor nk + 1) 0 r h ∙ ap (keyPart w nk key) (zero-add r))
+      ap (λ (ws : List ℕ). slot w ws b)
+      (joined-at 8 (keyPart w nk key) (roundsFor nk + 1) 0 (λ r h. pack-length w _) r h ∙ ap (keyPart w nk key) (zero-add r))
       ∙ slot-pack w (λ b. writeKey (roundsFor nk) r k) (λ b. write-block (roundsFor nk) r (rw e (key-block nk key pos long fits r h))) b c
       ∙ ap (writeKey (roundsFor nk) r) e
 
   -- and reads as FIPS-197's round keys
   pub schedule-reads : (b : ℕ) → b < slots w → reading w (roundsFor nk) (scheduleOf w nk key) b ≡ keyExpansion nk key
   unfolding reading keyExpansion
-  schedule-reads b c = map-same (λ r. readKey (roundsFor nk) r (stored w (scheduleOf w nk key) b r)) (sixteen (keyWords nk key)) (roundsFor nk + 1) 0 (λ r h.
-      ap (readKey (roundsFor nk) r) (schedule-stored b c r (rw (zero-add (roundsFor nk + 1)) at h))
-      ∙ read-write (roundsFor nk) r (key-block nk key pos long fits r (rw (zero-add (roundsFor nk + 1)) at h)))
+  schedule-reads b c =
+      joined-same (λ r. readKey (roundsFor nk) r (stored w (scheduleOf w nk key) b r)) (sixteen (keyWords nk key)) (roundsFor nk + 1) 0 (λ r h.
+      let y : r < roundsFor nk + 1 = omega arith in
+      ap (readKey (roundsFor nk) r) (schedule-stored b c r y)
+      ∙ read-write (roundsFor nk) r (key-block nk key pos long fits r y))
 
   -- so one statement settles each word: words of the width that hold the round keys as they are written are the schedule,
   pub schedule-is : (l : List ℕ) → length l ≡ 8 * (roundsFor nk + 1) → Fit (bits w) l
-      → ((b : ℕ) → b < slots w → (r : ℕ) → r < roundsFor nk + 1 → stored w l b r ≡ writeKey (roundsFor nk) r (sixteen (keyWords nk key) r)) → l ≡ scheduleOf w nk key
+      → ((b : ℕ) → b < slots w → (r : ℕ) → r < roundsFor nk + 1 → stored w l b r ≡ writeKey (roundsFor nk) r (sixteen (keyWords nk key) r))
+      → l ≡ scheduleOf w nk key
   schedule-is l e f h =
-      stored-one w (roundsFor nk + 1) l (scheduleOf w nk key) e f (schedule-length w nk key) (schedule-fits w nk key) (λ b c r k. h b c r k ∙ sym (schedule-stored b c r k))
+      stored-one w (roundsFor nk + 1) l (scheduleOf w nk key) e f (schedule-length w nk key) (schedule-fits w nk key)
+      (λ b c r k. h b c r k ∙ sym (schedule-stored b c r k))
 
   -- and so are words that read so in every slot
   pub schedule-only : (l : List ℕ) → length l ≡ 8 * (roundsFor nk + 1) → Fit (bits w) l
       → ((b : ℕ) → b < slots w → reading w (roundsFor nk) l b ≡ keyExpansion nk key) → l ≡ scheduleOf w nk key
   schedule-only l e f h =
-      reading-one w (roundsFor nk) l (scheduleOf w nk key) e f (schedule-length w nk key) (schedule-fits w nk key) (λ b c. h b c ∙ sym (schedule-reads b c))
+      reading-one w (roundsFor nk) l (scheduleOf w nk key) e f (schedule-length w nk key) (schedule-fits w nk key)
+      (λ b c. h b c ∙ sym (schedule-reads b c))
 
 -- two different keys of one length never share a schedule
 some-slot : (w : Width) → 0 < slots w
@@ -134,4 +110,6 @@ pub schedule-one : (w : Width) (nk : ℕ) (k l : List ℕ) → 1 ≤ nk → nk �
     → scheduleOf w nk k ≡ scheduleOf w nk l → k ≡ l
 schedule-one w nk k l p q e f e′ f′ h =
     expansion-one nk k l p q e e′
-    (sym (schedule-reads w nk k p e f 0 (some-slot w)) ∙ ap (λ (s : List ℕ). reading w (roundsFor nk) s 0) h ∙ schedule-reads w nk l p e′ f′ 0 (some-slot w))
+    (sym (schedule-reads w nk k p e f 0 (some-slot w))
+    ∙ ap (λ (s : List ℕ). reading w (roundsFor nk) s 0) h
+    ∙ schedule-reads w nk l p e′ f′ 0 (some-slot w))

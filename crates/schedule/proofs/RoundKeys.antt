@@ -5,13 +5,13 @@ use mathlib.Core.List.{List, [], _∷_, _++_, map}
 use Prim.Native.Nat.{ℕ, zero, suc, _+_, _-_, _*_, _/_, _%_, _≤_, _<_}
 use native.Mathlib.Omega.{arith}
 use borrow.Author.Tests.{ne-eqb}
-use mathlib.Core.Bool.{Bool, true, false}
+use mathlib.Core.Bool.{Bool, true, false, _&&_}
 use lib.Bits.{bitXor, xor-zero-r}
 use lib.Dec.{ltb}
 use lib.Arith.{digits-div, digits-mod}
 use lib.ListN.{getD, take, drop, length, length-drop}
 use lib.Seq.{take-nil, drop-nil, take-take, drop-drop, length-take-le}
-use Rattle.fips197.specs.Aes.{sbox, both, subBytes, wordOf, sixteen, rotWord, subWord, addWord, roundConstants, rcon, keyTemp, roundsFor, keyWords, addRoundKey}
+use Rattle.fips197.specs.Aes.{sbox, subBytes, wordOf, sixteen, rotWord, subWord, addWord, roundConstants, rcon, keyTemp, roundsFor, keyWords, addRoundKey}
 use Rattle.fips197.proofs.Blocks.{reads, reads-all}
 use Rattle.fips197.proofs.Keys.{words-length, word-rule}
 use Rattle.lanes.specs.Leaves.{addConstant, keyColumns}
@@ -44,16 +44,17 @@ word-of-key bs r j h =
 four-words : (s : List ℕ) → length s ≡ 16 → s ≡ wordOf s 0 ++ (wordOf s 1 ++ (wordOf s 2 ++ wordOf s 3))
 four-words s e = sym (reads-all s 16 e) ∙ ap (λ (t : List ℕ). wordOf t 0 ++ (wordOf t 1 ++ (wordOf t 2 ++ wordOf t 3))) (reads-all s 16 e)
 
--- ---- keyColumns, word by word: the first word is prev's plus the last of t, turned by n; each further one is prev's plus the new one before it
-abbrev turned : ℕ → List ℕ → List ℕ
-turned zero w = reads 0 4 w
-turned (suc n) w = rotWord w
+-- ---- keyColumns, word by word: the first word is prev's plus the last of t, rotated by n; each further one is prev's plus the new one before it
+abbrev rotated : ℕ → List ℕ → List ℕ
+rotated zero w = reads 0 4 w
+rotated (suc n) w = rotWord w
 
-calls4 : (Q : List ℕ) (F G H : List ℕ → List ℕ) {a b c d : List ℕ} → a ≡ Q → b ≡ F a → c ≡ G b → d ≡ H c → a ++ (b ++ (c ++ d)) ≡ Q ++ (F Q ++ (G (F Q) ++ H (G (F Q))))
+calls4 : (Q : List ℕ) (F G H : List ℕ → List ℕ) {a b c d : List ℕ} → a ≡ Q → b ≡ F a → c ≡ G b → d ≡ H c
+    → a ++ (b ++ (c ++ d)) ≡ Q ++ (F Q ++ (G (F Q) ++ H (G (F Q))))
 calls4 Q F G H p q r s = cc
 
 columns-explicit : (n : ℕ) → n < 2 → (p t : List ℕ)
-    → (let a = addWord (wordOf (reads 0 16 p) 0) (turned n (wordOf (reads 0 16 t) 3)) in
+    → (let a = addWord (wordOf (reads 0 16 p) 0) (rotated n (wordOf (reads 0 16 t) 3)) in
     let b = addWord (wordOf (reads 0 16 p) 1) a in
     let c = addWord (wordOf (reads 0 16 p) 2) b in
     a ++ (b ++ (c ++ addWord (wordOf (reads 0 16 p) 3) c))) ≡ keyColumns n p t
@@ -63,64 +64,69 @@ columns-explicit (suc zero) h p t = refl
 columns-explicit (suc (suc n)) h p t = absurd (omega arith)
 
 columns-are : (n : ℕ) → n < 2 → (p t q : List ℕ) → length p ≡ 16 → length t ≡ 16 → length q ≡ 16
-    → wordOf q 0 ≡ addWord (wordOf p 0) (turned n (wordOf t 3)) → wordOf q 1 ≡ addWord (wordOf p 1) (wordOf q 0)
+    → wordOf q 0 ≡ addWord (wordOf p 0) (rotated n (wordOf t 3)) → wordOf q 1 ≡ addWord (wordOf p 1) (wordOf q 0)
     → wordOf q 2 ≡ addWord (wordOf p 2) (wordOf q 1) → wordOf q 3 ≡ addWord (wordOf p 3) (wordOf q 2) → q ≡ keyColumns n p t
 columns-are n h p t q ep et eq a b c d =
     four-words q eq
-    ∙ calls4 (addWord (wordOf p 0) (turned n (wordOf t 3))) (addWord (wordOf p 1)) (addWord (wordOf p 2)) (addWord (wordOf p 3)) a b c d
-    ∙ ap₂ (λ (x y : List ℕ). let a = addWord (wordOf x 0) (turned n (wordOf y 3)) in
+    ∙ calls4 (addWord (wordOf p 0) (rotated n (wordOf t 3))) (addWord (wordOf p 1)) (addWord (wordOf p 2)) (addWord (wordOf p 3)) a b c d
+    ∙ ap₂ (λ (x y : List ℕ). let a = addWord (wordOf x 0) (rotated n (wordOf y 3)) in
     let b = addWord (wordOf x 1) a in
     let c = addWord (wordOf x 2) b in
     a ++ (b ++ (c ++ addWord (wordOf x 3) c))) (sym (reads-all p 16 ep)) (sym (reads-all t 16 et))
     ∙ columns-explicit n h p t
 
--- ---- round key i + 1 from round key i and from the one Nk words before it, where Nk is 4 m
+-- ---- round key r from the one before it and from the one Nk words before it, where Nk is 4 m
 module _ (nk : ℕ) (key : List ℕ) (pos : 1 ≤ nk) (long : length key ≡ 4 * nk) where
-  -- round key r
-  abbrev pub roundKey : ℕ → List ℕ
+  abbrev roundKey : ℕ → List ℕ
   roundKey r = sixteen (keyWords nk key) r
 
-  pub key-length : (r : ℕ) → r < roundsFor nk + 1 → length (roundKey r) ≡ 16
-  key-length r h = length-take-le 16 (drop (16 * r) (keyWords nk key)) (rw (length-drop (16 * r) (keyWords nk key), words-length nk key pos long) (omega arith))
+  key-length : (r : ℕ) → r < roundsFor nk + 1 → length (roundKey r) ≡ 16
+  key-length r h =
+      length-take-le 16 (drop (16 * r) (keyWords nk key))
+      (rw (length-drop (16 * r) (keyWords nk key), words-length nk key pos long) (omega arith))
 
-  module _ (m : ℕ) (four : nk ≡ 4 * m) (i : ℕ) (old : m ≤ i + 1) (more : i < roundsFor nk) where
-    -- 5.2's rule for word j of round key i + 1
-    rule : (j : ℕ) → j < 4 → wordOf (roundKey (i + 1)) j ≡ addWord (wordOf (roundKey (i + 1 - m)) j) (keyTemp nk (4 * (i + 1) + j) (wordOf (keyWords nk key) (4 * (i + 1) + j - 1)))
+  module _ (m : ℕ) (four : nk ≡ 4 * m) (r : ℕ) (old : m ≤ r) (there : r < roundsFor nk + 1) where
+    -- 5.2's rule for word j of round key r
+    rule : (j : ℕ) → j < 4
+        → wordOf (roundKey r) j ≡ addWord (wordOf (roundKey (r - m)) j) (keyTemp nk (4 * r + j) (wordOf (keyWords nk key) (4 * r + j - 1)))
     rule j h =
-        let n : ℕ = 4 * (i + 1) + j in
-        let e : n - nk ≡ 4 * (i + 1 - m) + j = omega arith in
-        word-of-key (keyWords nk key) (i + 1) j h
+        let n : ℕ = 4 * r + j in
+        let e : n - nk ≡ 4 * (r - m) + j = omega arith in
+        word-of-key (keyWords nk key) r j h
         ∙ word-rule nk key pos long n (omega arith) (omega arith)
-        ∙ ap (λ (w : List ℕ). addWord w (keyTemp nk n (wordOf (keyWords nk key) (n - 1)))) (ap (wordOf (keyWords nk key)) e ∙ sym (word-of-key (keyWords nk key) (i + 1 - m) j h))
+        ∙ ap (λ (w : List ℕ). addWord w (keyTemp nk n (wordOf (keyWords nk key) (n - 1))))
+        (ap (wordOf (keyWords nk key)) e ∙ sym (word-of-key (keyWords nk key) (r - m) j h))
 
     -- words 1 to 3: nothing is done to the word before
-    rule-plain : (j : ℕ) → suc j < 4 → ((w : List ℕ) → keyTemp nk (4 * (i + 1) + suc j) w ≡ w)
-        → wordOf (roundKey (i + 1)) (suc j) ≡ addWord (wordOf (roundKey (i + 1 - m)) (suc j)) (wordOf (roundKey (i + 1)) j)
+    rule-plain : (j : ℕ) → suc j < 4 → ((w : List ℕ) → keyTemp nk (4 * r + suc j) w ≡ w)
+        → wordOf (roundKey r) (suc j) ≡ addWord (wordOf (roundKey (r - m)) (suc j)) (wordOf (roundKey r) j)
     rule-plain j h plain =
-        let e : 4 * (i + 1) + suc j - 1 ≡ 4 * (i + 1) + j = omega arith in
+        let e : 4 * r + suc j - 1 ≡ 4 * r + j = omega arith in
         rule (suc j) h
-        ∙ ap (addWord (wordOf (roundKey (i + 1 - m)) (suc j)))
-        (plain (wordOf (keyWords nk key) (4 * (i + 1) + suc j - 1)) ∙ ap (wordOf (keyWords nk key)) e ∙ sym (word-of-key (keyWords nk key) (i + 1) j (omega arith)))
+        ∙ ap (addWord (wordOf (roundKey (r - m)) (suc j)))
+        (plain (wordOf (keyWords nk key) (4 * r + suc j - 1))
+        ∙ ap (wordOf (keyWords nk key)) e
+        ∙ sym (word-of-key (keyWords nk key) r j (omega arith)))
 
-    -- t is what was done to round key i
+    -- t is what was done to the round key before
     next-key : (n : ℕ) → n < 2 → (t : List ℕ) → length t ≡ 16
-        → turned n (wordOf t 3) ≡ keyTemp nk (4 * (i + 1)) (wordOf (roundKey i) 3)
-        → ((j : ℕ) → 0 < j → j < 4 → (w : List ℕ) → keyTemp nk (4 * (i + 1) + j) w ≡ w)
-        → roundKey (i + 1) ≡ keyColumns n (roundKey (i + 1 - m)) t
+        → rotated n (wordOf t 3) ≡ keyTemp nk (4 * r) (wordOf (roundKey (r - 1)) 3)
+        → ((j : ℕ) → 0 < j → j < 4 → (w : List ℕ) → keyTemp nk (4 * r + j) w ≡ w)
+        → roundKey r ≡ keyColumns n (roundKey (r - m)) t
     next-key n h t e first plain =
-        let z : 4 * (i + 1) + 0 ≡ 4 * (i + 1) = omega arith in
-        let y : 4 * (i + 1) + 0 - 1 ≡ 4 * i + 3 = omega arith in
-        columns-are n h (roundKey (i + 1 - m)) t (roundKey (i + 1)) (key-length (i + 1 - m) (omega arith)) e (key-length (i + 1) (omega arith))
+        let z : 4 * r + 0 ≡ 4 * r = omega arith in
+        let y : 4 * r + 0 - 1 ≡ 4 * (r - 1) + 3 = omega arith in
+        columns-are n h (roundKey (r - m)) t (roundKey r) (key-length (r - m) (omega arith)) e (key-length r there)
         (rule 0 (omega arith)
-        ∙ ap (addWord (wordOf (roundKey (i + 1 - m)) 0))
+        ∙ ap (addWord (wordOf (roundKey (r - m)) 0))
         (ap₂ (λ (p q : ℕ). keyTemp nk p (wordOf (keyWords nk key) q)) z y
-        ∙ ap (keyTemp nk (4 * (i + 1))) (sym (word-of-key (keyWords nk key) i 3 (omega arith)))
+        ∙ ap (keyTemp nk (4 * r)) (sym (word-of-key (keyWords nk key) (r - 1) 3 (omega arith)))
         ∙ sym first))
         (rule-plain 0 (omega arith) (plain 1 (omega arith) (omega arith)))
         (rule-plain 1 (omega arith) (plain 2 (omega arith) (omega arith)))
         (rule-plain 2 (omega arith) (plain 3 (omega arith) (omega arith)))
 
--- ---- what the code does to the key before: SubBytes, and a constant; its last column turned is the standard's temp
+-- ---- what the code does to the key before: SubBytes, and a constant; its last column rotated is the standard's temp
 constant-length : (c : ℕ) (s : List ℕ) → length (addConstant c s) ≡ 16
 unfolding addConstant addRoundKey
 constant-length c s = refl
@@ -139,12 +145,13 @@ constant-none s e = each (reads 0 16 s) ∙ reads-all s 16 e
     each (x ∷ l) = ap₂ _∷_ (xor-zero-r x) (each l)
 
 -- SubWord of the last word
-sub-last : (s : List ℕ) → length s ≡ 16 → turned 0 (wordOf (subBytes s) 3) ≡ subWord (wordOf s 3)
+sub-last : (s : List ℕ) → length s ≡ 16 → rotated 0 (wordOf (subBytes s) 3) ≡ subWord (wordOf s 3)
 unfolding subBytes subWord
-sub-last s e = ap (λ (t : List ℕ). turned 0 (wordOf (map sbox t) 3)) (sym (reads-all s 16 e)) ∙ ap (λ (t : List ℕ). subWord (wordOf t 3)) (reads-all s 16 e)
+sub-last s e = ap (λ (t : List ℕ). rotated 0 (wordOf (map sbox t) 3)) (sym (reads-all s 16 e)) ∙ ap (λ (t : List ℕ). subWord (wordOf t 3)) (reads-all s 16 e)
 
 -- and with RotWord and Rcon
-constant-last : (c : ℕ) (s : List ℕ) → length s ≡ 16 → turned 1 (wordOf (addConstant c (subBytes s)) 3) ≡ addWord (subWord (rotWord (wordOf s 3))) (c ∷ 0 ∷ 0 ∷ 0 ∷ [])
+constant-last : (c : ℕ) (s : List ℕ) → length s ≡ 16
+    → rotated 1 (wordOf (addConstant c (subBytes s)) 3) ≡ addWord (subWord (rotWord (wordOf s 3))) (c ∷ 0 ∷ 0 ∷ 0 ∷ [])
 unfolding addConstant addRoundKey subBytes subWord rotWord addWord
 constant-last c s e =
     ap (λ (t : List ℕ). rotWord (wordOf (addConstant c (map sbox t)) 3)) (sym (reads-all s 16 e))
@@ -163,7 +170,7 @@ temp-plain : (nk i : ℕ) (w : List ℕ) → (i % nk ≡ 0 → ⊥) → (i % nk 
 unfolding keyTemp
 temp-plain nk i w p q = rw (ne-eqb (i % nk) 0 p, ne-eqb (i % nk) 4 q, none (ltb 6 nk))
   where
-    none : (b : Bool) → both b false ≡ false
+    none : (b : Bool) → _&&_ b false ≡ false
     none true = refl
     none false = refl
 
@@ -172,30 +179,40 @@ unfolding rcon
 rcon-is j = let e : j + 1 - 1 ≡ j = omega arith in rw e
 
 -- ---- the two steps of the code
-module _ (nk : ℕ) (key : List ℕ) (pos : 1 ≤ nk) (long : length key ≡ 4 * nk) (m : ℕ) (four : nk ≡ 4 * m) (i : ℕ) (old : m ≤ i + 1) (more : i < roundsFor nk) where
-  -- round key i + 1 begins at j + 1 times Nk words: round constant j, and the last column turned
-  pub next-constant : (j : ℕ) → 4 * (i + 1) ≡ (j + 1) * nk
-      → sixteen (keyWords nk key) (i + 1) ≡ keyColumns 1 (sixteen (keyWords nk key) (i + 1 - m)) (addConstant (getD roundConstants j 0) (subBytes (sixteen (keyWords nk key) i)))
-  next-constant j e =
-      let k : List ℕ = roundKey nk key pos long i in
-      let c : ℕ = getD roundConstants j 0 in
-      let digit : (p : ℕ) → p < nk → (4 * (i + 1) + p) % nk ≡ p = λ p h. rw e (digits-mod (j + 1) h) in
-      let z : 4 * (i + 1) + 0 ≡ 4 * (i + 1) = omega arith in
-      let times : 4 * (i + 1) / nk ≡ j + 1 = rw (← z, e) (digits-div (j + 1) pos) in
-      next-key nk key pos long m four i old more 1 (omega arith) (addConstant c (subBytes k)) (constant-length c (subBytes k))
-      (constant-last c k (key-length nk key pos long i (omega arith))
-      ∙ sym (temp-constant nk (4 * (i + 1)) (wordOf k 3) (rw z at (digit 0 pos)) ∙ ap (addWord (subWord (rotWord (wordOf k 3)))) (ap rcon times ∙ rcon-is j)))
-      (λ p h l w. temp-plain nk (4 * (i + 1) + p) w (λ f. omega (arith, digit p (omega arith))) (λ f. omega (arith, digit p (omega arith))))
+module _ (nk : ℕ) (key : List ℕ) (pos : 1 ≤ nk) (long : length key ≡ 4 * nk) where
+  module _ (m : ℕ) (four : nk ≡ 4 * m) (r : ℕ) (old : m ≤ r) (there : r < roundsFor nk + 1) where
+    -- round key r begins at j + 1 times Nk words: round constant j, and the last column rotated
+    pub next-constant : (j : ℕ) → 4 * r ≡ (j + 1) * nk
+        → sixteen (keyWords nk key) r
+        ≡ keyColumns 1 (sixteen (keyWords nk key) (r - m)) (addConstant (getD roundConstants j 0) (subBytes (sixteen (keyWords nk key) (r - 1))))
+    next-constant j e =
+        let k : List ℕ = roundKey nk key pos long (r - 1) in
+        let c : ℕ = getD roundConstants j 0 in
+        let digit : (p : ℕ) → p < nk → (4 * r + p) % nk ≡ p = λ p h. rw e (digits-mod (j + 1) h) in
+        let z : 4 * r + 0 ≡ 4 * r = omega arith in
+        let times : 4 * r / nk ≡ j + 1 = rw (← z, e) (digits-div (j + 1) pos) in
+        next-key nk key pos long m four r old there 1 (omega arith) (addConstant c (subBytes k)) (constant-length c (subBytes k))
+        (constant-last c k (key-length nk key pos long (r - 1) (omega arith))
+        ∙ sym (temp-constant nk (4 * r) (wordOf k 3) (rw z at (digit 0 pos))
+        ∙ ap (addWord (subWord (rotWord (wordOf k 3)))) (ap rcon times ∙ rcon-is j)))
+        (λ p h l w.
+        temp-plain nk (4 * r + p) w (λ f. omega (arith, digit p (omega arith))) (λ f. omega (arith, digit p (omega arith))))
 
-  -- at Nk = 8, half way between two such: no constant, and the last column as it is
-  pub next-plain : nk ≡ 8 → (j : ℕ) → 4 * (i + 1) ≡ j * 8 + 4
-      → sixteen (keyWords nk key) (i + 1) ≡ keyColumns 0 (sixteen (keyWords nk key) (i + 1 - m)) (addConstant 0 (subBytes (sixteen (keyWords nk key) i)))
-  next-plain g j e =
-      let k : List ℕ = roundKey nk key pos long i in
-      let l : length k ≡ 16 = key-length nk key pos long i (omega arith) in
-      let digit : (p : ℕ) → p < 4 → (4 * (i + 1) + p) % 8 ≡ 4 + p = λ p h. let f : j * 8 + 4 + p ≡ j * 8 + (4 + p) = omega arith in rw (e, f) (digits-mod j (omega arith)) in
-      let z : 4 * (i + 1) + 0 ≡ 4 * (i + 1) = omega arith in
-      next-key nk key pos long m four i old more 0 (omega arith) (subBytes k) (sub-length k l)
-      (sub-last k l ∙ sym (ap (λ (n : ℕ). keyTemp n (4 * (i + 1)) (wordOf k 3)) g ∙ temp-sub (4 * (i + 1)) (wordOf k 3) (rw z at (digit 0 (omega arith)))))
-      (λ p h l w. ap (λ (n : ℕ). keyTemp n (4 * (i + 1) + p) w) g ∙ temp-plain 8 (4 * (i + 1) + p) w (λ f. omega (arith, digit p l)) (λ f. omega (arith, digit p l)))
-      ∙ ap (keyColumns 0 (roundKey nk key pos long (i + 1 - m))) (sym (constant-none (subBytes k) (sub-length k l)))
+    -- at Nk = 8, half way between two such: no constant, and the last column as it is
+    pub next-plain : nk ≡ 8 → (j : ℕ) → 4 * r ≡ j * 8 + 4
+        → sixteen (keyWords nk key) r
+        ≡ keyColumns 0 (sixteen (keyWords nk key) (r - m)) (addConstant 0 (subBytes (sixteen (keyWords nk key) (r - 1))))
+    next-plain g j e =
+        let k : List ℕ = roundKey nk key pos long (r - 1) in
+        let l : length k ≡ 16 = key-length nk key pos long (r - 1) (omega arith) in
+        let digit : (p : ℕ) → p < 4 → (4 * r + p) % 8 ≡ 4 + p =
+        λ p h. let f : j * 8 + 4 + p ≡ j * 8 + (4 + p) = omega arith in rw (e, f) (digits-mod j (omega arith)) in
+        let z : 4 * r + 0 ≡ 4 * r = omega arith in
+        next-key nk key pos long m four r old there 0 (omega arith) (subBytes k) (sub-length k l)
+        (sub-last k l
+        ∙ sym (ap (λ (n : ℕ). keyTemp n (4 * r) (wordOf k 3)) g
+        ∙ temp-sub (4 * r) (wordOf k 3) (rw z at (digit 0 (omega arith)))))
+        (λ p h l w.
+        ap (λ (n : ℕ). keyTemp n (4 * r + p) w) g
+        ∙ temp-plain 8 (4 * r + p) w (λ f. omega (arith, digit p l)) (λ f. omega (arith, digit p l)))
+        ∙ ap (keyColumns 0 (roundKey nk key pos long (r - m))) (sym (constant-none (subBytes k) (sub-length k l)))

@@ -5,9 +5,10 @@ use mathlib.Core.List.{List, [], _∷_}
 use Prim.Native.Nat.{ℕ}
 use lib.ListN.{getD, set, replicate}
 use Rattle.fips197.specs.Cases.{P5, P6, P7, P8}
-use Rattle.lanes.specs.Layout.{w32, w64, pack, doubleBits}
-use Rattle.lanes.specs.Leaves.{bareSubBytes}
+use Rattle.lanes.specs.Layout.{w32, w64, pack}
+use Rattle.lanes.specs.Masks.{doubleBits}
 use Rattle.lanes.specs.Schedule.{wordsAt, scheduleOf}
+use Rattle.lanes.specs.Leaves.{bareSubBytes}
 
 -- n blocks of zeros, but for one byte of one block
 abbrev oneByte : ℕ → ℕ → ℕ → ℕ → List (List ℕ)
@@ -32,5 +33,7 @@ pub record Cases : Type 0 where
   pub p7 : P7
   pub p8 : P8
   pub p9 : wordsAt (scheduleOf w32 4 (zeroKey 16)) 8 ≡ oneWord 0 0x000000ff
-  pub p10 : (wordsAt (scheduleOf w32 8 (zeroKey 32)) 8 ≡ 0xffffffff ∷ 0xffffffff ∷ 0 ∷ 0 ∷ 0 ∷ 0xffffffff ∷ 0xffffffff ∷ 0 ∷ []) × (getD (scheduleOf w32 8 (zeroKey 32)) 16 0 ≡ 0x000000ff)
+  pub p10 :
+      (wordsAt (scheduleOf w32 8 (zeroKey 32)) 8 ≡ 0xffffffff ∷ 0xffffffff ∷ 0 ∷ 0 ∷ 0 ∷ 0xffffffff ∷ 0xffffffff ∷ 0 ∷ [])
+      × (getD (scheduleOf w32 8 (zeroKey 32)) 16 0 ≡ 0x000000ff)
   pub p11 : doubleBits 0xa5 ≡ 0xcc33

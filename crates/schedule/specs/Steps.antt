@@ -1,35 +1,43 @@
 -- What the parts of the key expansion do to a schedule (docs/SCOPE.md, "The rounds"): the contracts of the inner functions cite these.
 use mathlib.Core.Path.{_≡_}
-use mathlib.Core.List.{List, _++_}
+use mathlib.Core.List.{List}
 use Prim.Native.Nat.{ℕ, zero, suc, _+_, _-_, _*_, _≤_, _<_}
-use lib.ListN.{getD, take, length}
+use lib.ListN.{getD, length}
 use Rattle.fips197.specs.Aes.{sixteen, keyWords, subBytes, roundConstants}
-use Rattle.lanes.specs.Layout.{Width, slots, slot}
+use Rattle.lanes.specs.Layout.{Width, slots}
+use Rattle.lanes.specs.Sizes.{keySize}
+use Rattle.lanes.specs.Schedule.{stored}
 use Rattle.lanes.specs.Leaves.{addConstant, keyColumns}
-use Rattle.lanes.specs.Schedule.{wordsAt, stored}
 
+-- ---- what is asked of a call
+-- a key of k bytes has a row in the table of sizes, and l words are its schedule
+pub record SizedFor (k l : ℕ) : Type 0 where
+  pub keyed : keySize k .nk ≡ 0 → ⊥
+  pub words : l ≡ keySize k .words
+
+-- l words are the schedule of a key of m blocks, one or two: AES-128 and AES-256
+pub record Expands (m l : ℕ) : Type 0 where
+  pub some : 1 ≤ m
+  pub few : m ≤ 2
+  pub words : l ≡ 8 * (4 * m + 7)
+
+-- round key r has room in l words, and m others come before it
+pub record Follows (m r l : ℕ) : Type 0 where
+  pub some : 1 ≤ m
+  pub old : m ≤ r
+  pub room : 8 * r + 8 ≤ l
+
+-- ---- one step
 -- the pass over a round key that makes the next: SubBytes, and the round constant, or 0, at row 1, column 3
 abbrev pub keyPass : ℕ → List ℕ → List ℕ
 keyPass c k = addConstant c (subBytes k)
 
--- the round key at an offset of the words l, for each slot: columns of the key `back` words before it and of what the pass makes of the key
--- just before it; n rows are turned
+-- round key r of the words l, for each slot: columns of the key m before it and of what the pass makes of the key just before it, whose last
+-- column is rotated by n rows
 abbrev pub nextOf : Width → ℕ → (List ℕ → List ℕ) → List ℕ → ℕ → ℕ → ℕ → List ℕ → List ℕ
-nextOf w n pass l at back b x = keyColumns n (slot w (wordsAt l (at - back)) b) (pass (slot w (wordsAt l (at - 8)) b))
+nextOf w n pass l r m b x = keyColumns n (stored w l b (r - m)) (pass (stored w l b (r - 1)))
 
--- the key of Nk words that stands in slot b, in the first two round keys
-abbrev pub startKey : Width → ℕ → List ℕ → ℕ → List ℕ
-startKey w nk l b = take (4 * nk) (stored w l b 0 ++ stored w l b 1)
-
--- the turn with round constant j begins at round key `from`, which a schedule of n words has; m is Nk / 4, for AES-128 and AES-256
-pub record InTurn (m from j n : ℕ) : Type 0 where
-  pub some : 1 ≤ m
-  pub few : m ≤ 2
-  pub begins : from ≡ (j + 1) * m
-  pub there : 8 * from < n
-  pub long : n ≡ 8 * (4 * m + 7)
-
--- what the step to key p of a turn adds, and the rows by which it turns the last column: only the first has round constant j and a row
+-- what step p of round constant j's adds, and the rows by which it rotates: only the first has the constant and a row
 unfoldable pub stepConstant : ℕ → ℕ → ℕ
 stepConstant j zero = getD roundConstants j 0
 stepConstant j (suc p) = 0
@@ -38,13 +46,18 @@ unfoldable pub stepRows : ℕ → ℕ
 stepRows zero = 1
 stepRows (suc p) = 0
 
--- in each slot of m, round keys 0 to n - 1, where there are so many, are FIPS-197's, of the key that stood in that slot of l
-pub record Keys (w : Width) (nk n : ℕ) (l m : List ℕ) : Type 0 where
-  pub at : (b : ℕ) → b < slots w → (r : ℕ) → r < n → 8 * r + 8 ≤ length m → stored w m b r ≡ sixteen (keyWords nk (startKey w nk l b)) r
+-- ---- the schedule so far
+-- in each slot, round keys 0 to n - 1 are the blocks of the key
+pub record Loaded (w : Width) (n : ℕ) (key l : List ℕ) : Type 0 where
+  pub at : (b : ℕ) → b < slots w → (r : ℕ) → r < n → stored w l b r ≡ sixteen key r
 
--- where l has p round keys, m has q of the same key
+-- in each slot, round keys 0 to n - 1, where there are so many, are FIPS-197's of a key of Nk words
+pub record Keys (w : Width) (nk n : ℕ) (key l : List ℕ) : Type 0 where
+  pub at : (b : ℕ) → b < slots w → (r : ℕ) → r < n → 8 * r + 8 ≤ length l → stored w l b r ≡ sixteen (keyWords nk key) r
+
+-- where l has the first p round keys of a key, m has the first q
 pub record Grows (w : Width) (nk p q : ℕ) (l m : List ℕ) : Type 0 where
-  pub more : (l₀ : List ℕ) → Keys w nk p l₀ l → Keys w nk q l₀ m
+  pub more : (key : List ℕ) → length key ≡ 4 * nk → Keys w nk p key l → Keys w nk q key m
 
 -- in each slot, the round keys from 1 up to n, n not counted, went through f; the others are as they were
 pub record Adjusted (w : Width) (f : ℕ → List ℕ → List ℕ) (n : ℕ) (l m : List ℕ) : Type 0 where

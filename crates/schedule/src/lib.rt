@@ -9,7 +9,7 @@ ghost use Rattle.schedule.specs.Steps.{stepConstant, stepRows};
 // The ten round constants; their set bits choose the words to flip. AES-256 uses the first seven.
 const ROUND_CONSTANTS: [u8; 10] = [0x01, 0x02, 0x04, 0x08, 0x10, 0x20, 0x40, 0x80, 0x1b, 0x36];
 
-// What the step to key p of a turn adds: only the first of them has a round constant.
+// What step p of a round constant's adds: only the first adds the constant.
 fn step_constant(rcon: usize, p: usize) -> u8
     requires { ⌜ rcon < 10 ⌝ }
     ensures { λ r. ⌜ r ≡ stepConstant rcon p ⌝ }
@@ -20,12 +20,12 @@ fn step_constant(rcon: usize, p: usize) -> u8
     0
 }
 
-// The rows by which it turns the last column.
+// The rows by which it rotates the last column: the others rotate columns only.
 fn step_rows(p: usize) -> u32
     ensures { λ r. ⌜ r ≡ stepRows p ⌝ }
 {
     if p == 0 {
         return 1;
     }
-    0 // columns only
+    0
 }

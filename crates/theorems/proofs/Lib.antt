@@ -1,4 +1,5 @@
+pub mod Call
+pub mod Calls
 pub mod Theorems
+pub mod Witness
 pub mod Wrong
-pub mod WrongExpand
-pub mod WrongOthers

@@ -1,216 +1,346 @@
--- THE THEOREMS, of the public calls: what the demands of the mission say, each from the calls' promises alone. Read this file first.
--- An answer (r, x) is the number a call gives and what its buffer then holds; the promise of each call is `answers r x ≡ its outcome`
--- (crates/aes/specs/Outcome.antt), which the code of crates/aes and crates/host is proved to meet. Assumes nothing.
+-- THE THEOREMS, of the public calls: what the demands of docs/SCOPE.md say, each from the calls' promises alone. Read this file first.
+-- `Made C a x`: call C was made with arguments a that can be made and are to be answered, and x is what its buffer then holds (Call.antt); its
+-- promise is the one that the code of crates/aes and crates/host is proved to meet. Demand 1 is `answer-settled`, `answers-0`, `answers-0-only` and
+-- `refusal-changes-nothing` of Call.antt, for every call. Assumes nothing.
 use mathlib.Core.Path.{_≡_, refl, sym, _∙_, ap, ap₂}
-use mathlib.Core.Bool.{Bool, true, false, not}
 use mathlib.Core.List.{List}
-use Prim.Native.Nat.{ℕ, _+_, _*_, _<_}
-use lib.Dec.{eqb}
-use lib.ListN.{length}
-use Rattle.fips197.specs.Aes.{Fit, sixteen, cipher, invCipher, keyExpansion, roundsFor}
-use Rattle.lanes.specs.Layout.{Width, w64, bits, slots}
-use Rattle.lanes.specs.Schedule.{reading, scheduleOf, encryptedBatch, decryptedBatch}
-use Rattle.schedule.proofs.Reading.{schedule-length, schedule-reads, schedule-only, schedule-one}
-use Rattle.cipher.specs.Batch.{Batch}
-use Rattle.cipher.proofs.Batches.{encrypted-slot, decrypted-slot, decrypted-batch, decrypted-encrypted, encrypted-decrypted, encrypted-one}
-use Rattle.aes.specs.Outcome.{Outcome, answers, refuse, either, directed, roundsOf, keyWordsOf, scheduleWords, expandOutcome, cryptOutcome, encryptOutcome, decryptOutcome, checkOutcome, checkValue, doorOutcome}
-use Rattle.aes.proofs.Answers.{settled, crypt-0, crypt-taken, expand-taken, KeySize, key-size}
-
--- ---- demand 1: one answer, and a refusal changes nothing
-
--- two answers that meet the promise are equal, number and every byte
-pub encrypt-settled : (w : Width) (s i o : List ℕ) {r r′ : ℕ} {x x′ : List ℕ} → answers r x ≡ encryptOutcome w s i o → answers r′ x′ ≡ encryptOutcome w s i o → (r ≡ r′) × (x ≡ x′)
-encrypt-settled w s i o = settled (encryptOutcome w s i o)
-
-pub decrypt-settled : (w : Width) (s i o : List ℕ) {r r′ : ℕ} {x x′ : List ℕ} → answers r x ≡ decryptOutcome w s i o → answers r′ x′ ≡ decryptOutcome w s i o → (r ≡ r′) × (x ≡ x′)
-decrypt-settled w s i o = settled (decryptOutcome w s i o)
-
-pub check-settled : (w : Width) (s o : List ℕ) {r r′ : ℕ} {x x′ : List ℕ} → answers r x ≡ checkOutcome w s o → answers r′ x′ ≡ checkOutcome w s o → (r ≡ r′) × (x ≡ x′)
-check-settled w s o = settled (checkOutcome w s o)
-
-pub expand-settled : (w : Width) (key s : List ℕ) {r r′ : ℕ} {x x′ : List ℕ} → answers r x ≡ expandOutcome w key s → answers r′ x′ ≡ expandOutcome w key s → (r ≡ r′) × (x ≡ x′)
-expand-settled w key s = settled (expandOutcome w key s)
-
-pub door-settled : (d : ℕ) (key i o : List ℕ) {r r′ : ℕ} {x x′ : List ℕ} → answers r x ≡ doorOutcome d key i o → answers r′ x′ ≡ doorOutcome d key i o → (r ≡ r′) × (x ≡ x′)
-door-settled d key i o = settled (doorOutcome d key i o)
-
--- an outcome under which every number but 0 leaves the buffer as it was
-record Keeps (o : List ℕ) (out : Outcome) : Type 0 where
-  keeps : (r : ℕ) (x : List ℕ) → answers r x ≡ out → (r ≡ 0 → ⊥) → x ≡ o
-
-refuse-keeps : (b : Bool) (n : ℕ) (o : List ℕ) {rest : Outcome} → Keeps o rest → Keeps o (refuse b n o rest)
-refuse-keeps true n o k = record { keeps = λ r x e h. cc }
-refuse-keeps false n o k = k
-
-zero-keeps : (o y : List ℕ) → Keeps o (answers 0 y)
-zero-keeps o y = record { keeps = λ r x e h. absurd (h (cc)) }
-
-crypt-keeps : (f : ℕ → List ℕ → List ℕ → List ℕ) (n : ℕ) (s i o : List ℕ) → Keeps o (cryptOutcome f n s i o)
-unfolding cryptOutcome
-crypt-keeps f n s i o = refuse-keeps (eqb (roundsOf (length s)) 0) 2 o (refuse-keeps (not (eqb (length i) n)) 3 o (refuse-keeps (not (eqb (length o) n)) 4 o (zero-keeps o (f (roundsOf (length s)) s i))))
-
-pub encrypt-refusal-changes-nothing : (w : Width) (s i o : List ℕ) {r : ℕ} {x : List ℕ} → answers r x ≡ encryptOutcome w s i o → (r ≡ 0 → ⊥) → x ≡ o
-encrypt-refusal-changes-nothing w s i o {r} {x} = crypt-keeps (encryptedBatch w) (16 * slots w) s i o .keeps r x
-
-pub decrypt-refusal-changes-nothing : (w : Width) (s i o : List ℕ) {r : ℕ} {x : List ℕ} → answers r x ≡ decryptOutcome w s i o → (r ≡ 0 → ⊥) → x ≡ o
-decrypt-refusal-changes-nothing w s i o {r} {x} = crypt-keeps (decryptedBatch w) (16 * slots w) s i o .keeps r x
-
-check-keeps : (w : Width) (s o : List ℕ) → Keeps o (checkOutcome w s o)
-unfolding checkOutcome
-check-keeps w s o = refuse-keeps (eqb (roundsOf (length s)) 0) 2 o (refuse-keeps (not (eqb (length o) 3)) 4 o (zero-keeps o (checkValue w (roundsOf (length s)) s)))
-
-pub check-refusal-changes-nothing : (w : Width) (s o : List ℕ) {r : ℕ} {x : List ℕ} → answers r x ≡ checkOutcome w s o → (r ≡ 0 → ⊥) → x ≡ o
-check-refusal-changes-nothing w s o {r} {x} = check-keeps w s o .keeps r x
-
-expand-keeps : (w : Width) (key s : List ℕ) → Keeps s (expandOutcome w key s)
-unfolding expandOutcome
-expand-keeps w key s = refuse-keeps (eqb (keyWordsOf (length key)) 0) 1 s (refuse-keeps (not (eqb (length s) (8 * (roundsFor (keyWordsOf (length key)) + 1)))) 2 s (zero-keeps s (scheduleOf w (keyWordsOf (length key)) key)))
-
-pub expand-refusal-changes-nothing : (w : Width) (key s : List ℕ) {r : ℕ} {x : List ℕ} → answers r x ≡ expandOutcome w key s → (r ≡ 0 → ⊥) → x ≡ s
-expand-refusal-changes-nothing w key s {r} {x} = expand-keeps w key s .keeps r x
-
-door-keeps : (d : ℕ) (key i o : List ℕ) → Keeps o (doorOutcome d key i o)
-unfolding doorOutcome
-door-keeps d key i o =
-    refuse-keeps (eqb (keyWordsOf (length key)) 0) 1 o (refuse-keeps (not (eqb (length i) 64)) 3 o (refuse-keeps (not (eqb (length o) 64)) 4 o
-    (refuse-keeps (not (either (eqb d 0) (eqb d 1))) 5 o (zero-keeps o (directed (eqb d 0) (roundsFor (keyWordsOf (length key))) (scheduleOf w64 (keyWordsOf (length key)) key) i)))))
-
-pub door-refusal-changes-nothing : (d : ℕ) (key i o : List ℕ) {r : ℕ} {x : List ℕ} → answers r x ≡ doorOutcome d key i o → (r ≡ 0 → ⊥) → x ≡ o
-door-refusal-changes-nothing d key i o {r} {x} = door-keeps d key i o .keeps r x
+use Prim.Native.Nat.{ℕ, _+_, _*_, _≤_, _<_}
+use native.Mathlib.Omega.{arith}
+use lib.Dec.{lit<, lit≤}
+use lib.ListN.{length, take, replicate}
+use Rattle.fips197.specs.Bytes.{Fit, Data}
+use Rattle.fips197.specs.Aes.{sixteen, cipher, invCipher, keyExpansion, roundsFor}
+use Rattle.fips197.proofs.Ciphers.{Blocks}
+use Rattle.fips197.proofs.Keys.{expansion-blocks}
+use Rattle.lanes.specs.Layout.{Width, w32, w64, bits, slots}
+use Rattle.lanes.specs.Sizes.{keySize, scheduleSize}
+use Rattle.lanes.specs.Schedule.{reading, scheduleOf, eachBlock, cryptedBatch}
+use Rattle.lanes.proofs.Sizes.{Found, key-found}
+use Rattle.lanes.proofs.EachBlock.{Keeping, each-at, each-data, each-undone}
+use Rattle.schedule.proofs.Reading.{schedule-length, schedule-fits, schedule-reads, schedule-only, schedule-one}
+use Rattle.cipher.proofs.Batches.{Way, forth, backwards, crypted-slot, crypted-data, crypted-undone, crypted-one}
+use Rattle.calls.specs.Calls.{keyWordsOf, scheduleWords, roundsOf, keysOf, keysIn, checkValue, directed}
+use Rattle.theorems.proofs.Call.{Made, leaves, can-make}
+use Rattle.theorems.proofs.Calls.{expandCall, cryptCall}
+use Rattle.theorems.proofs.Calls.{checkCall, doorCall}
 
 -- ---- demand 2: an expansion reads as FIPS-197's round keys
+abbrev pub Expands : Width → List ℕ → List ℕ → Type 0
+Expands w key x = Made (expandCall w) key x
 
--- expand was called with a key of one of the two lengths and room for its schedule, and x is what the buffer then holds
-pub record Expands (w : Width) (key x : List ℕ) : Type 0 where
-  pub right-length : keyWordsOf (length key) ≡ 0 → ⊥
-  pub bytes : Fit 8 key
-  pub buffer : List ℕ
-  pub room : length buffer ≡ 8 * (roundsFor (keyWordsOf (length key)) + 1)
-  pub number : ℕ
-  pub answer : answers number x ≡ expandOutcome w key buffer
+module _ {w : Width} {key x : List ℕ} (m : Expands w key x) where
+  nk : ℕ
+  nk = keyWordsOf key
 
-module _ {w : Width} {key x : List ℕ} (c : Expands w key x) where
-  abbrev nk : ℕ
-  nk = keyWordsOf (length key)
+  sized : Found (λ z. 4 * z .nk) (length key) (keySize (length key))
+  unfolding keyWordsOf
+  sized = key-found (length key) (m .can .good .keyed)
 
-  size : KeySize (length key) nk (scheduleWords (length key))
-  size = key-size (length key) (c .right-length)
+  some : 1 ≤ keyWordsOf key
+  unfolding keyWordsOf
+  some = sized .sized .some
 
-  expanded : (c .number ≡ 0) × (x ≡ scheduleOf w nk key)
-  expanded = expand-taken w key (c .buffer) (c .answer) (c .right-length) (c .room)
+  most : keyWordsOf key ≤ 8
+  unfolding keyWordsOf
+  most = sized .sized .most
 
-  pub expand-answers-0 : c .number ≡ 0
-  expand-answers-0 = expanded .0
+  long : length key ≡ 4 * keyWordsOf key
+  unfolding keyWordsOf
+  long = sized .at
 
-  -- in every slot the words read as the round keys of FIPS-197's KeyExpansion
-  pub expand-reads : (b : ℕ) → b < slots w → reading w (roundsFor (keyWordsOf (length key))) x b ≡ keyExpansion (keyWordsOf (length key)) key
-  expand-reads b h = ap (λ (s : List ℕ). reading w (roundsFor nk) s b) (expanded .1) ∙ schedule-reads w nk key (size .some) (size .bytes) (c .bytes) b h
+  expanded : x ≡ scheduleOf w (keyWordsOf key) key
+  expanded = leaves (expandCall w) m
 
-  -- and no other words of the width do
-  pub expand-only : (l : List ℕ) → length l ≡ 8 * (roundsFor (keyWordsOf (length key)) + 1) → Fit (bits w) l
-      → ((b : ℕ) → b < slots w → reading w (roundsFor (keyWordsOf (length key))) l b ≡ keyExpansion (keyWordsOf (length key)) key) → l ≡ x
-  expand-only l e f h = schedule-only w nk key (size .some) (size .bytes) (c .bytes) l e f h ∙ sym (expanded .1)
+  words-are : scheduleWords key ≡ 8 * (roundsFor (keyWordsOf key) + 1)
+  unfolding keyWordsOf scheduleWords
+  words-are = sized .sized .words-are ∙ ap (λ (n : ℕ). 8 * (n + 1)) (sized .sized .rounds-are)
 
   -- it is a schedule, of the rounds that its key asks
-  pub expand-rounds : roundsOf (length x) ≡ roundsFor (keyWordsOf (length key))
-  expand-rounds = ap roundsOf (ap length (expanded .1) ∙ schedule-length w nk key ∙ sym (size .length-is)) ∙ size .rounds-are
+  pub expand-rounds : roundsOf x ≡ roundsFor (keyWordsOf key)
+  unfolding roundsOf keyWordsOf scheduleWords
+  expand-rounds =
+      ap (λ (n : ℕ). scheduleSize n .rounds) (ap length expanded ∙ schedule-length w (keyWordsOf key) key ∙ sym words-are)
+      ∙ sized .sized .found-again
+      ∙ sized .sized .rounds-are
+
+  -- in every slot the words read as the round keys of FIPS-197's KeyExpansion
+  pub expand-reads : (b : ℕ) → b < slots w → keysIn w x b ≡ keyExpansion (keyWordsOf key) key
+  unfolding keysOf
+  expand-reads b h =
+      ap (λ (n : ℕ). reading w n x b) expand-rounds
+      ∙ ap (λ (s : List ℕ). reading w (roundsFor (keyWordsOf key)) s b) expanded
+      ∙ schedule-reads w (keyWordsOf key) key some long (m .can .fits .key-bytes) b h
+
+  -- and no other words of the width do
+  pub expand-only : (l : List ℕ) → length l ≡ length x → Fit (bits w) l → ((b : ℕ) → b < slots w → keysIn w l b ≡ keyExpansion (keyWordsOf key) key) → l ≡ x
+  unfolding keysOf roundsOf
+  expand-only l e f h =
+      let r : roundsOf l ≡ roundsFor (keyWordsOf key) = ap (λ (n : ℕ). scheduleSize n .rounds) e ∙ expand-rounds in
+      schedule-only w (keyWordsOf key) key some long (m .can .fits .key-bytes) l (e ∙ ap length expanded ∙ schedule-length w (keyWordsOf key) key) f
+      (λ b y. ap (λ (n : ℕ). reading w n l b) (sym r) ∙ h b y)
+      ∙ sym expanded
 
 -- two keys of one length never share a schedule
 pub two-keys-two-schedules : {w : Width} {k l x : List ℕ} → length k ≡ length l → Expands w k x → Expands w l x → k ≡ l
+unfolding keyWordsOf
 two-keys-two-schedules {w} {k} {l} e c d =
-    let n : keyWordsOf (length l) ≡ keyWordsOf (length k) = ap keyWordsOf (sym e) in
-    schedule-one w (keyWordsOf (length k)) k l (size c .some) (size c .most) (size c .bytes) (c .bytes) (sym e ∙ size c .bytes) (d .bytes)
-    (sym (expanded c .1) ∙ expanded d .1 ∙ ap (λ (m : ℕ). scheduleOf w m l) n)
+    let n : keyWordsOf l ≡ keyWordsOf k = ap (λ (n : ℕ). keySize n .nk) (sym e) in
+    schedule-one w (keyWordsOf k) k l (some c) (most c) (long c) (c .can .fits .key-bytes) (sym e ∙ long c) (d .can .fits .key-bytes)
+    (sym (expanded c) ∙ expanded d ∙ ap (λ (m : ℕ). scheduleOf w m l) n)
 
--- ---- demand 3: for ANY words as a schedule, of one of the two lengths, and any full batch
+-- ---- demand 3: for ANY words of the right number as a schedule, and any full batch
+abbrev pub Batch : Width → List ℕ → Type 0
+Batch w i = Data (slots w) i
 
--- a schedule, whatever its words are
-pub record Schedule (s : List ℕ) : Type 0 where
-  pub right-length : roundsOf (length s) ≡ 0 → ⊥
+-- what was called in the direction v under the schedule s with the batch i left x
+abbrev pub Crypts : Way → Width → List ℕ → List ℕ → List ℕ → Type 0
+Crypts v w s i x = Made (cryptCall (v .go) w) (record { schedule = s; input = i }) x
 
--- encrypt was called on a full batch with a full output buffer, and x is what the buffer then holds
-pub record Encrypts (w : Width) (s i x : List ℕ) : Type 0 where
-  pub schedule : Schedule s
-  pub batch : Batch w i
-  pub buffer : List ℕ
-  pub room : length buffer ≡ 16 * slots w
-  pub number : ℕ
-  pub answer : answers number x ≡ encryptOutcome w s i buffer
+abbrev pub Encrypts : Width → List ℕ → List ℕ → List ℕ → Type 0
+Encrypts w s i x = Made (cryptCall cipher w) (record { schedule = s; input = i }) x
 
--- decrypt likewise
-pub record Decrypts (w : Width) (s i x : List ℕ) : Type 0 where
-  pub schedule : Schedule s
-  pub batch : Batch w i
-  pub buffer : List ℕ
-  pub room : length buffer ≡ 16 * slots w
-  pub number : ℕ
-  pub answer : answers number x ≡ decryptOutcome w s i buffer
+abbrev pub Decrypts : Width → List ℕ → List ℕ → List ℕ → Type 0
+Decrypts w s i x = Made (cryptCall invCipher w) (record { schedule = s; input = i }) x
+
+-- a schedule of the width, whatever its words are
+pub record Schedule (w : Width) (s : List ℕ) : Type 0 where
+  pub right-length : roundsOf s ≡ 0 → ⊥
+  pub words : Fit (bits w) s
+
+-- what expand leaves is one
+pub expand-schedule : {w : Width} {key x : List ℕ} → Expands w key x → Schedule w x
+expand-schedule {w} {key} m = record {
+  right-length = λ e. omega (arith, expand-rounds m, e);
+  words = rw (expanded m) (schedule-fits w (keyWordsOf key) key);
+}
+
+module _ (v : Way) {w : Width} {s : List ℕ} where
+  crypt-schedule : {i x : List ℕ} → Crypts v w s i x → Schedule w s
+  crypt-schedule m = record { right-length = m .can .good .scheduled; words = m .can .fits .schedule-words }
+
+  crypt-input : {i x : List ℕ} → Crypts v w s i x → Batch w i
+  crypt-input m = record { long = m .can .good .full-input; bytes = m .can .fits .input-bytes }
+
+  crypt-left : {i x : List ℕ} → Crypts v w s i x → x ≡ cryptedBatch (v .go) w (roundsOf s) (keysOf s) i
+  crypt-left m = leaves (cryptCall (v .go) w) m
+
+  crypt-output : {i x : List ℕ} → Crypts v w s i x → Batch w x
+  crypt-output m = rw (crypt-left m) (crypted-data v w (roundsOf s) (keysOf s) (crypt-input m))
+
+  pub crypt-is : {i x : List ℕ} → Crypts v w s i x → (b : ℕ) → b < slots w → sixteen x b ≡ v .go (keysIn w s b) (sixteen i b)
+  crypt-is m b h = ap (λ (l : List ℕ). sixteen l b) (crypt-left m) ∙ crypted-slot v w (roundsOf s) (keysOf s) (crypt-input m) b h
+
+  crypt-one : {i j x : List ℕ} → Crypts v w s i x → Crypts v w s j x → i ≡ j
+  crypt-one m n = crypted-one v w (roundsOf s) (keysOf s) (crypt-input m) (crypt-input n) (sym (crypt-left m) ∙ crypt-left n)
+
+  -- a call in this direction on a batch, if it comes to be made, leaves this
+  crypt-can : {i : List ℕ} → Schedule w s → Batch w i → Crypts v w s i (cryptedBatch (v .go) w (roundsOf s) (keysOf s) i)
+  crypt-can {i} p d =
+      can-make (cryptCall (v .go) w) {o = i}
+      (record {
+        fits = record { schedule-words = p .words; input-bytes = d .bytes; buffer-bytes = d .bytes };
+        good = record { scheduled = p .right-length; full-input = d .long; full-output = d .long };
+      }) refl
 
 module _ {w : Width} {s : List ℕ} where
-  encrypted : {i x : List ℕ} (c : Encrypts w s i x) → (c .number ≡ 0) × (x ≡ encryptedBatch w (roundsOf (length s)) s i)
-  encrypted {i} c = crypt-taken (encryptedBatch w) (16 * slots w) s i (c .buffer) (c .answer) (c .schedule .right-length) (c .batch .long) (c .room)
-
-  decrypted : {i x : List ℕ} (c : Decrypts w s i x) → (c .number ≡ 0) × (x ≡ decryptedBatch w (roundsOf (length s)) s i)
-  decrypted {i} c = crypt-taken (decryptedBatch w) (16 * slots w) s i (c .buffer) (c .answer) (c .schedule .right-length) (c .batch .long) (c .room)
-
-  -- such a call answers 0
-  pub encrypt-answers-0 : {i x : List ℕ} (c : Encrypts w s i x) → c .number ≡ 0
-  encrypt-answers-0 c = encrypted c .0
-
-  pub decrypt-answers-0 : {i x : List ℕ} (c : Decrypts w s i x) → c .number ≡ 0
-  decrypt-answers-0 c = decrypted c .0
-
-  -- slot b is FIPS-197's Cipher of block b under the round keys that slot b reads
-  pub encrypt-is-cipher : {i x : List ℕ} → Encrypts w s i x → (b : ℕ) → b < slots w → sixteen x b ≡ cipher (reading w (roundsOf (length s)) s b) (sixteen i b)
-  encrypt-is-cipher c b h = ap (λ (l : List ℕ). sixteen l b) (encrypted c .1) ∙ encrypted-slot w (roundsOf (length s)) s (c .batch) b h
+  -- slot b is FIPS-197's Cipher of block b under the round keys that slot b has
+  pub encrypt-is-cipher : {i x : List ℕ} → Encrypts w s i x → (b : ℕ) → b < slots w → sixteen x b ≡ cipher (keysIn w s b) (sixteen i b)
+  encrypt-is-cipher m = crypt-is forth m
 
   -- and FIPS-197's InvCipher
-  pub decrypt-is-invCipher : {i x : List ℕ} → Decrypts w s i x → (b : ℕ) → b < slots w → sixteen x b ≡ invCipher (reading w (roundsOf (length s)) s b) (sixteen i b)
-  decrypt-is-invCipher c b h = ap (λ (l : List ℕ). sixteen l b) (decrypted c .1) ∙ decrypted-slot w (roundsOf (length s)) s (c .batch) b h
+  pub decrypt-is-invCipher : {i x : List ℕ} → Decrypts w s i x → (b : ℕ) → b < slots w → sixteen x b ≡ invCipher (keysIn w s b) (sixteen i b)
+  decrypt-is-invCipher m = crypt-is backwards m
 
-  -- one-to-one: no two different batches encrypt alike
-  pub encrypt-one-to-one : {i j x : List ℕ} → Encrypts w s i x → Encrypts w s j x → i ≡ j
-  encrypt-one-to-one c d = encrypted-one w (roundsOf (length s)) s (c .batch) (d .batch) (sym (encrypted c .1) ∙ encrypted d .1)
+  -- a batch is answered by a batch
+  pub encrypt-batch : {i x : List ℕ} → Encrypts w s i x → Batch w x
+  encrypt-batch m = crypt-output forth m
 
-  -- onto: every batch is the encryption of a batch
-  pub encrypt-onto : {x : List ℕ} → Schedule s → Batch w x → (i : List ℕ) × Encrypts w s i x
-  encrypt-onto {x} p d =
-      let n : ℕ = roundsOf (length s) in
-      let e : Batch w (decryptedBatch w n s x) = decrypted-batch w n s d in (
-        decryptedBatch w n s x,
-        record {
-          schedule = p;
-          batch = e;
-          buffer = x;
-          room = d .long;
-          number = 0;
-          answer = crypt-0 (encryptedBatch w) (16 * slots w) s (decryptedBatch w n s x) x refl (p .right-length) (e .long) (d .long) (sym (encrypted-decrypted w n s d));
-        },
-      )
+  pub decrypt-batch : {i x : List ℕ} → Decrypts w s i x → Batch w x
+  decrypt-batch m = crypt-output backwards m
 
   -- decryption undoes encryption, and encryption decryption
   pub decrypt-undoes-encrypt : {i x y : List ℕ} → Encrypts w s i x → Decrypts w s x y → y ≡ i
-  decrypt-undoes-encrypt c d = decrypted d .1 ∙ ap (decryptedBatch w (roundsOf (length s)) s) (encrypted c .1) ∙ decrypted-encrypted w (roundsOf (length s)) s (c .batch)
+  decrypt-undoes-encrypt m n =
+      crypt-left backwards n ∙ ap (cryptedBatch invCipher w (roundsOf s) (keysOf s)) (crypt-left forth m)
+      ∙ crypted-undone forth w (roundsOf s) (keysOf s) (crypt-input forth m)
 
   pub encrypt-undoes-decrypt : {i x y : List ℕ} → Decrypts w s i x → Encrypts w s x y → y ≡ i
-  encrypt-undoes-decrypt c d = encrypted d .1 ∙ ap (encryptedBatch w (roundsOf (length s)) s) (decrypted c .1) ∙ encrypted-decrypted w (roundsOf (length s)) s (c .batch)
+  encrypt-undoes-decrypt m n =
+      crypt-left forth n ∙ ap (cryptedBatch cipher w (roundsOf s) (keysOf s)) (crypt-left backwards m)
+      ∙ crypted-undone backwards w (roundsOf s) (keysOf s) (crypt-input backwards m)
+
+  -- one-to-one: no two different batches encrypt alike
+  pub encrypt-one-to-one : {i j x : List ℕ} → Encrypts w s i x → Encrypts w s j x → i ≡ j
+  encrypt-one-to-one m n = crypt-one forth m n
+
+  -- what decryption answers is the one batch that encrypts to what it was given
+  pub decrypt-finds : {x y : List ℕ} → Decrypts w s x y → Encrypts w s y x × ((j : List ℕ) → Encrypts w s j x → j ≡ y)
+  decrypt-finds {x} {y} m =
+      let found : Encrypts w s y (cryptedBatch cipher w (roundsOf s) (keysOf s) y) = crypt-can forth (crypt-schedule backwards m) (crypt-output backwards m) in
+      let e : cryptedBatch cipher w (roundsOf s) (keysOf s) y ≡ x = encrypt-undoes-decrypt m found in
+      let finds : Encrypts w s y x = rw e at found in
+      (finds, λ j n. encrypt-one-to-one n finds)
+
+  -- onto: every batch is the encryption of exactly one batch
+  pub encrypt-onto : {x : List ℕ} → Schedule w s → Batch w x → (i : List ℕ) × Encrypts w s i x × ((j : List ℕ) → Encrypts w s j x → j ≡ i)
+  encrypt-onto {x} p d =
+      let found = decrypt-finds (crypt-can backwards p d) in
+      (cryptedBatch invCipher w (roundsOf s) (keysOf s) x, found .0, found .1)
 
 -- SLOTS ARE APART: what slot b holds afterwards changes neither with another slot's block nor with another slot's round keys. It is what the
 -- purge job relies on: a header is decrypted as if it were alone
 module _ {w : Width} {s t i j x y : List ℕ} (b : ℕ) (h : b < slots w) where
-  pub encrypt-slots-apart : Encrypts w s i x → Encrypts w t j y → reading w (roundsOf (length s)) s b ≡ reading w (roundsOf (length t)) t b → sixteen i b ≡ sixteen j b → sixteen x b ≡ sixteen y b
-  encrypt-slots-apart c d p q = encrypt-is-cipher c b h ∙ ap₂ cipher p q ∙ sym (encrypt-is-cipher d b h)
+  pub encrypt-slots-apart : Encrypts w s i x → Encrypts w t j y → keysIn w s b ≡ keysIn w t b → sixteen i b ≡ sixteen j b → sixteen x b ≡ sixteen y b
+  encrypt-slots-apart m n p q = encrypt-is-cipher m b h ∙ ap₂ cipher p q ∙ sym (encrypt-is-cipher n b h)
 
-  pub decrypt-slots-apart : Decrypts w s i x → Decrypts w t j y → reading w (roundsOf (length s)) s b ≡ reading w (roundsOf (length t)) t b → sixteen i b ≡ sixteen j b → sixteen x b ≡ sixteen y b
-  decrypt-slots-apart c d p q = decrypt-is-invCipher c b h ∙ ap₂ invCipher p q ∙ sym (decrypt-is-invCipher d b h)
+  pub decrypt-slots-apart : Decrypts w s i x → Decrypts w t j y → keysIn w s b ≡ keysIn w t b → sixteen i b ≡ sixteen j b → sixteen x b ≡ sixteen y b
+  decrypt-slots-apart m n p q = decrypt-is-invCipher m b h ∙ ap₂ invCipher p q ∙ sym (decrypt-is-invCipher n b h)
 
 -- ---- both demands together: under an expanded key, FIPS-197 with that key, in every slot
-pub encrypt-under-key : {w : Width} {key s i x : List ℕ} → Expands w key s → Encrypts w s i x → (b : ℕ) → b < slots w
-    → sixteen x b ≡ cipher (keyExpansion (keyWordsOf (length key)) key) (sixteen i b)
-encrypt-under-key {w} {key} {s} {i} {x} c d b h =
-    encrypt-is-cipher d b h ∙ ap (λ (ks : List (List ℕ)). cipher ks (sixteen i b)) (ap (λ (n : ℕ). reading w n s b) (expand-rounds c) ∙ expand-reads c b h)
+module _ {w : Width} {key s i x : List ℕ} (e : Expands w key s) where
+  pub encrypt-under-key : Encrypts w s i x → (b : ℕ) → b < slots w → sixteen x b ≡ cipher (keyExpansion (keyWordsOf key) key) (sixteen i b)
+  encrypt-under-key m b h = encrypt-is-cipher m b h ∙ ap (λ (ks : List (List ℕ)). cipher ks (sixteen i b)) (expand-reads e b h)
 
-pub decrypt-under-key : {w : Width} {key s i x : List ℕ} → Expands w key s → Decrypts w s i x → (b : ℕ) → b < slots w
-    → sixteen x b ≡ invCipher (keyExpansion (keyWordsOf (length key)) key) (sixteen i b)
-decrypt-under-key {w} {key} {s} {i} {x} c d b h =
-    decrypt-is-invCipher d b h ∙ ap (λ (ks : List (List ℕ)). invCipher ks (sixteen i b)) (ap (λ (n : ℕ). reading w n s b) (expand-rounds c) ∙ expand-reads c b h)
+  pub decrypt-under-key : Decrypts w s i x → (b : ℕ) → b < slots w → sixteen x b ≡ invCipher (keyExpansion (keyWordsOf key) key) (sixteen i b)
+  decrypt-under-key m b h = decrypt-is-invCipher m b h ∙ ap (λ (ks : List (List ℕ)). invCipher ks (sixteen i b)) (expand-reads e b h)
+
+-- ---- the key check value
+abbrev pub Checks : Width → List ℕ → List ℕ → Type 0
+Checks w s x = Made (checkCall w) s x
+
+first-slot : (w : Width) → 0 < slots w
+first-slot w32 = lit< tt
+first-slot w64 = lit< tt
+
+zero-first : (w : Width) → sixteen (replicate (16 * slots w) 0) 0 ≡ replicate 16 0
+zero-first w32 = refl
+zero-first w64 = refl
+
+-- it is the first three bytes of slot 0 of what encrypt answers for a batch of zeros
+pub check-is-slot-0 : {w : Width} {s x y : List ℕ} → Checks w s x → Encrypts w s (replicate (16 * slots w) 0) y → x ≡ take 3 (sixteen y 0)
+unfolding checkValue
+check-is-slot-0 {w} {s} m n =
+    leaves (checkCall w) m
+    ∙ ap (take 3) (sym (encrypt-is-cipher n 0 (first-slot w) ∙ ap (cipher (keysIn w s 0)) (zero-first w)))
+
+-- under an expanded key it is FIPS-197's
+pub check-under-key : {w : Width} {key s x : List ℕ} → Expands w key s → Checks w s x → x ≡ take 3 (cipher (keyExpansion (keyWordsOf key) key) (replicate 16 0))
+unfolding checkValue
+check-under-key {w} e m = leaves (checkCall w) m ∙ ap (λ (ks : List (List ℕ)). take 3 (cipher ks (replicate 16 0))) (expand-reads e 0 (first-slot w))
+
+-- ---- THE DOOR, what the purge job calls: direction 0 encrypts and 1 decrypts
+abbrev pub Doors : ℕ → List ℕ → List ℕ → List ℕ → Type 0
+Doors d key i x = Made (doorCall d) (record { key = key; input = i }) x
+
+-- the round keys of a key
+abbrev pub roundKeys : List ℕ → List (List ℕ)
+roundKeys key = keyExpansion (keyWordsOf key) key
+
+-- what may be called a key
+pub record Key (key : List ℕ) : Type 0 where
+  pub right-length : keyWordsOf key ≡ 0 → ⊥
+  pub bytes : Fit 8 key
+
+pub keys-of : {key : List ℕ} → Key key → Blocks (roundKeys key)
+unfolding keyWordsOf
+keys-of {key} k =
+    let f = key-found (length key) (k .right-length) in
+    expansion-blocks (keyWordsOf key) key (f .sized .some) (f .at) (k .bytes)
+
+-- a direction d that is the way v through the cipher: 0 is forth, 1 is backwards
+module _ (d : ℕ) (v : Way) (way : directed d ≡ v .go) {key : List ℕ} where
+  door-key : {i x : List ℕ} → Doors d key i x → Key key
+  door-key m = record { right-length = m .can .good .keyed; bytes = m .can .fits .key-bytes }
+
+  door-input : {i x : List ℕ} → Doors d key i x → Batch w64 i
+  door-input m = record { long = m .can .good .full-input; bytes = m .can .fits .input-bytes }
+
+  door-keeping : Key key → Keeping (λ slot. v .go (roundKeys key))
+  door-keeping k = record { keeps = λ b y. v .go-block (keys-of k) y }
+
+  door-left : {i x : List ℕ} → Doors d key i x → x ≡ eachBlock w64 (λ slot. v .go (roundKeys key)) (slots w64) i
+  door-left {i} m = leaves (doorCall d) m ∙ ap (λ (c : List (List ℕ) → List ℕ → List ℕ). eachBlock w64 (λ slot. c (roundKeys key)) (slots w64) i) way
+
+  pub door-is : {i x : List ℕ} → Doors d key i x → (b : ℕ) → b < slots w64 → sixteen x b ≡ v .go (roundKeys key) (sixteen i b)
+  door-is m b h = ap (λ (l : List ℕ). sixteen l b) (door-left m) ∙ each-at w64 (door-keeping (door-key m)) (door-input m) b h
+
+  door-output : {i x : List ℕ} → Doors d key i x → Batch w64 x
+  door-output m = rw (door-left m) (each-data w64 (door-keeping (door-key m)) (door-input m))
+
+  -- a call in this direction, if it comes to be made, leaves this
+  door-can : {i : List ℕ} → d ≤ 1 → Key key → Batch w64 i → Doors d key i (eachBlock w64 (λ slot. v .go (roundKeys key)) (slots w64) i)
+  door-can {i} le k y =
+      can-make (doorCall d) {o = i}
+      (record {
+        fits = record { key-bytes = k .bytes; input-bytes = y .bytes; buffer-bytes = y .bytes };
+        good = record { keyed = k .right-length; full-input = y .long; full-output = y .long; direction = le };
+      })
+      (ap (λ (c : List (List ℕ) → List ℕ → List ℕ). eachBlock w64 (λ slot. c (roundKeys key)) (slots w64) i) (sym way))
+
+-- the direction e that is v's way back undoes it
+door-undone : (d e : ℕ) (v : Way) → directed d ≡ v .go → directed e ≡ v .back → {key i x y : List ℕ} → Doors d key i x → Doors e key x y → y ≡ i
+door-undone d e v p q {key} {i} {x} m n =
+    let k = door-key d v p m in
+    leaves (doorCall e) n
+    ∙ ap (λ (c : List (List ℕ) → List ℕ → List ℕ). eachBlock w64 (λ slot. c (roundKeys key)) (slots w64) x) q
+    ∙ ap (eachBlock w64 (λ slot. v .back (roundKeys key)) (slots w64)) (door-left d v p m)
+    ∙ each-undone w64 (door-keeping d v p k) (record { keeps = λ b y. v .back-block (keys-of k) y }) (λ b x y. v .undone (keys-of k) y) (door-input d v p m)
+
+module _ {key : List ℕ} where
+  -- each block is FIPS-197's Cipher, or InvCipher, of the same block under the round keys of KeyExpansion
+  pub door-0-is-cipher : {i x : List ℕ} → Doors 0 key i x → (b : ℕ) → b < slots w64 → sixteen x b ≡ cipher (roundKeys key) (sixteen i b)
+  door-0-is-cipher m = door-is 0 forth refl m
+
+  pub door-1-is-invCipher : {i x : List ℕ} → Doors 1 key i x → (b : ℕ) → b < slots w64 → sixteen x b ≡ invCipher (roundKeys key) (sixteen i b)
+  door-1-is-invCipher m = door-is 1 backwards refl m
+
+  -- a batch is answered by a batch
+  pub door-0-batch : {i x : List ℕ} → Doors 0 key i x → Batch w64 x
+  door-0-batch m = door-output 0 forth refl m
+
+  pub door-1-batch : {i x : List ℕ} → Doors 1 key i x → Batch w64 x
+  door-1-batch m = door-output 1 backwards refl m
+
+  -- each direction undoes the other
+  pub door-1-undoes-0 : {i x y : List ℕ} → Doors 0 key i x → Doors 1 key x y → y ≡ i
+  door-1-undoes-0 m n = door-undone 0 1 forth refl refl m n
+
+  pub door-0-undoes-1 : {i x y : List ℕ} → Doors 1 key i x → Doors 0 key x y → y ≡ i
+  door-0-undoes-1 m n = door-undone 1 0 backwards refl refl m n
+
+  -- what a direction finds, the other leads back, and no other batch does: so each is one-to-one and onto
+  door-finds-0 : {x y : List ℕ} → Doors 1 key x y → Doors 0 key y x
+  door-finds-0 m =
+      let found = door-can 0 forth refl (lit≤ tt) (door-key 1 backwards refl m) (door-output 1 backwards refl m) in
+      rw (door-0-undoes-1 m found) at found
+
+  door-finds-1 : {x y : List ℕ} → Doors 0 key x y → Doors 1 key y x
+  door-finds-1 m =
+      let found = door-can 1 backwards refl (lit≤ tt) (door-key 0 forth refl m) (door-output 0 forth refl m) in
+      rw (door-1-undoes-0 m found) at found
+
+  -- one-to-one
+  pub door-0-one-to-one : {i j x : List ℕ} → Doors 0 key i x → Doors 0 key j x → i ≡ j
+  door-0-one-to-one m n = sym (door-1-undoes-0 m (door-finds-1 m)) ∙ door-1-undoes-0 n (door-finds-1 m)
+
+  pub door-1-one-to-one : {i j x : List ℕ} → Doors 1 key i x → Doors 1 key j x → i ≡ j
+  door-1-one-to-one m n = sym (door-0-undoes-1 m (door-finds-0 m)) ∙ door-0-undoes-1 n (door-finds-0 m)
+
+  -- onto: every batch is the answer to exactly one
+  pub door-0-onto : {x : List ℕ} → Key key → Batch w64 x → (i : List ℕ) × Doors 0 key i x × ((j : List ℕ) → Doors 0 key j x → j ≡ i)
+  door-0-onto {x} k d =
+      let found = door-finds-0 (door-can 1 backwards refl (lit≤ tt) k d) in
+      (eachBlock w64 (λ slot. invCipher (roundKeys key)) (slots w64) x, found, λ j n. door-0-one-to-one n found)
+
+  pub door-1-onto : {x : List ℕ} → Key key → Batch w64 x → (i : List ℕ) × Doors 1 key i x × ((j : List ℕ) → Doors 1 key j x → j ≡ i)
+  door-1-onto {x} k d =
+      let found = door-finds-1 (door-can 0 forth refl (lit≤ tt) k d) in
+      (eachBlock w64 (λ slot. cipher (roundKeys key)) (slots w64) x, found, λ j n. door-1-one-to-one n found)
+
+  -- SLOTS ARE APART: a block of the answer does not change when other blocks of the input do
+  module _ {i j x y : List ℕ} (b : ℕ) (h : b < slots w64) where
+    pub door-0-slots-apart : Doors 0 key i x → Doors 0 key j y → sixteen i b ≡ sixteen j b → sixteen x b ≡ sixteen y b
+    door-0-slots-apart m n e = door-0-is-cipher m b h ∙ ap (cipher (roundKeys key)) e ∙ sym (door-0-is-cipher n b h)
+
+    pub door-1-slots-apart : Doors 1 key i x → Doors 1 key j y → sixteen i b ≡ sixteen j b → sixteen x b ≡ sixteen y b
+    door-1-slots-apart m n e = door-1-is-invCipher m b h ∙ ap (invCipher (roundKeys key)) e ∙ sym (door-1-is-invCipher n b h)

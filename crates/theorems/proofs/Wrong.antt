@@ -1,252 +1,497 @@
--- Programs that are wrong cannot meet the promises of encrypt and decrypt: one that refuses everything, one that writes the same bytes each
--- time, one that writes nothing and answers 0, one that copies its input, one that does the first round and skips the rest, one that fills
--- every slot from slot 0. Each takes the wrong program's answer for every input and derives a contradiction. Assumes nothing.
+-- PROGRAMS THAT ARE WRONG CANNOT MEET THE PROMISES: one that refuses everything, one that writes the same bytes each time, one that copies its
+-- input, one that writes nothing and answers 0, one that does the first round and skips the rest, one that fills every slot from slot 0; of each
+-- call, and of the door in both directions. Each is refuted on a call that can be made (Witness.antt). docs/PROMISES.md has the table. Assumes nothing.
 use mathlib.Core.Path.{_≡_, refl, sym, _∙_, ap, ap₂}
-use mathlib.Core.List.{List, [], _∷_}
-use Prim.Native.Nat.{ℕ, zero, suc, _-_, _*_, _<_}
+use mathlib.Core.List.{List, [], _++_}
+use Prim.Native.Nat.{ℕ, _+_, _-_, _*_, _/_, _%_, _≤_, _<_}
+use native.Mathlib.Nat.{mod-eq-of-lt}
 use native.Mathlib.Omega.{arith}
-use lib.Dec.{lit<}
-use lib.ListN.{length, getD, replicate}
-use Rattle.fips197.specs.Aes.{Block, sixteen, xtime, product, inverse, affine, invAffine, sbox, invSbox, subBytes, invSubBytes, shiftRows, invShiftRows, mixColumns, invMixColumns, addRoundKey, rounds, cipher, invRounds, invCipher}
-use Rattle.fips197.proofs.Blocks.{fit-test, fit-cons}
-use Rattle.fips197.proofs.Ciphers.{Blocks, none, more, cipher-block, invCipher-block, cipher-one, cipher-invCipher}
-use Rattle.lanes.specs.Layout.{Width, w32, w64, slots, slot, eachSlot, join}
-use Rattle.lanes.specs.Leaves.{add63, rowsShifted}
-use Rattle.lanes.specs.Schedule.{wordsAt, stored, readKey, reading, encryptedBatch, decryptedBatch}
-use Rattle.cipher.specs.Batch.{Batch}
-use Rattle.cipher.proofs.Batches.{batch-block, sixteen-join, encrypted-slot, decrypted-slot, encrypted-one, encrypted-decrypted}
-use Rattle.aes.specs.Outcome.{Outcome, answers, roundsOf, cryptOutcome, encryptOutcome, decryptOutcome}
-use Rattle.aes.proofs.Answers.{same-number, same-buffer, zero-block}
+use lib.Dec.{lit<, lit≤}
+use lib.ListN.{length, getD, take, drop, replicate, getD-replicate, length-replicate}
+use lib.Seq.{getD-drop, getD-append-add, getD-take, length-take-le}
+use Rattle.fips197.specs.Aes.{sixteen, shiftRows, cipher, invCipher}
+use Rattle.fips197.proofs.Examples.{keyA1, roundKeysA1}
+use Rattle.lanes.specs.Layout.{Width, w32, w64, slots, slot}
+use Rattle.lanes.specs.Sizes.{keySize, scheduleSize}
+use Rattle.lanes.specs.Schedule.{wordsAt, stored, add63, rowsShifted, readKey, reading, scheduleOf, eachBlock}
+use Rattle.lanes.proofs.EachBlock.{block-of}
+use Rattle.schedule.proofs.Reading.{schedule-length, schedule-one}
+use Rattle.cipher.proofs.Batches.{Way, forth, backwards, keys}
+use Rattle.outcome.specs.Outcome.{answers}
+use Rattle.outcome.proofs.Laws.{same-number, same-left, is-not}
+use Rattle.calls.specs.Calls.{keyWordsOf, scheduleWords, roundsOf, keysOf, keysIn, checkValue, directed, doorOutcome}
+use Rattle.theorems.proofs.Call.{Call, Can, Refuted, can-make, refuses-everything, writes-another, writes-the-same, writes-by-buffer}
+use Rattle.theorems.proofs.Calls.{CryptArgs, DoorArgs, expandCall, cryptCall, encryptCall, decryptCall, checkCall, doorCall}
+use Rattle.theorems.proofs.Theorems.{crypt-is, door-is, keys-of, roundKeys}
+use Rattle.theorems.proofs.Witness.{zero-block, one-block, batch, batch-data, block-0, block-1, slot-0, slot-1, first, block-at, Sample, A1, A3, ones}
+use Rattle.theorems.proofs.Witness.{words-A1, words-ones, ones-key, room, can-expand, words, keys-are, crypt-args, can-crypt, can-check, door-args}
+use Rattle.theorems.proofs.Witness.{can-door, firstRound, firstUnround, first-round-length, first-unround-length, cipher-one, cipher-zero}
+use Rattle.theorems.proofs.Witness.{invCipher-one, invCipher-zero, round-one, round-zero, unround-one, cipher-zero-A3}
 
--- ---- the shape: a program is its answer for every schedule, input and output buffer
-abbrev pub Program : Type 0
-Program = List ℕ → List ℕ → List ℕ → Outcome
+-- whatever numbers a program refuses with
+abbrev pub RefusesAll : Call → Type 0
+RefusesAll C = (number : C .Args → List ℕ → ℕ) → ((a : C .Args) (o : List ℕ) → number a o ≡ 0 → ⊥) → Refuted C (λ a o. answers (number a o) o)
 
--- a call that is to be answered: a schedule of 88 or 120 words, and full batches
-pub record Answered (w : Width) (s i o : List ℕ) : Type 0 where
-  pub rounds : roundsOf (length s) ≡ 0 → ⊥
-  pub input : length i ≡ 16 * slots w
-  pub output : length o ≡ 16 * slots w
+-- ---- a call on blocks that does c to each block of the test batch; v and u are the first bytes of c on the test block and on zeros
+record BlockCall (C : Call) : Type 0 where
+  w : Width
+  args : ℕ → C .Args
+  can : (x y : ℕ) → x < 256 → y < 256 → Can C (args x) (batch w y)
+  c : List ℕ → List ℕ
+  each : (x b : ℕ) → x < 256 → b < slots w → sixteen (C .result (args x)) b ≡ c (sixteen (batch w x) b)
+  v : ℕ
+  u : ℕ
+  on-one : getD (c one-block) 0 0 ≡ v
+  on-zero : getD (c zero-block) 0 0 ≡ u
+  apart : v ≡ u → ⊥
+  not-0 : v ≡ 0 → ⊥
+  not-1 : v ≡ 1 → ⊥
 
--- it agrees with the promise wherever a call is to be answered; so a wrong program may refuse rightly and is wrong all the same
-abbrev pub Meets : Width → Program → Program → Type 0
-Meets w P Q = (s i o : List ℕ) → Answered w s i o → P s i o ≡ Q s i o
+module _ {C : Call} (k : BlockCall C) where
+  can-1 : Can C (k .args 1) (batch (k .w) 0)
+  can-1 = k .can 1 0 (lit< tt) (lit< tt)
 
--- ---- inputs that must be answered: a schedule of 88 zero words, and batches that hold x in their first byte and zeros
-pub words : List ℕ
-words = replicate 88 0
+  can-0 : Can C (k .args 0) (batch (k .w) 0)
+  can-0 = k .can 0 0 (lit< tt) (lit< tt)
 
-pub batch : Width → ℕ → List ℕ
-batch w x = x ∷ replicate (16 * slots w - 1) 0
+  -- what is left begins with v for the test batch, and with u for zeros; block 1 begins with u
+  begins : first (C .result (k .args 1)) 0 ≡ k .v
+  begins = ap (λ (l : List ℕ). getD l 0 0) (k .each 1 0 (lit< tt) (slot-0 (k .w)) ∙ ap (k .c) (block-0 (k .w) 1)) ∙ k .on-one
 
-taken : (w : Width) (f : ℕ → List ℕ → List ℕ → List ℕ) (x y : ℕ) → cryptOutcome f (16 * slots w) words (batch w x) (batch w y) ≡ answers 0 (f 10 words (batch w x))
-unfolding cryptOutcome roundsOf words batch
-taken w32 f x y = refl
-taken w64 f x y = refl
+  begins-0 : first (C .result (k .args 0)) 0 ≡ k .u
+  begins-0 = ap (λ (l : List ℕ). getD l 0 0) (k .each 0 0 (lit< tt) (slot-0 (k .w)) ∙ ap (k .c) (block-0 (k .w) 0)) ∙ k .on-zero
 
-good : (w : Width) (x y : ℕ) → Answered w words (batch w x) (batch w y)
-unfolding roundsOf words batch
-good w32 x y = record { rounds = λ e. omega arith; input = refl; output = refl }
-good w64 x y = record { rounds = λ e. omega arith; input = refl; output = refl }
+  second : first (C .result (k .args 1)) 1 ≡ k .u
+  second = ap (λ (l : List ℕ). getD l 0 0) (k .each 1 1 (lit< tt) (slot-1 (k .w)) ∙ ap (k .c) (block-1 (k .w) 1)) ∙ k .on-zero
 
-zero≢one : (w : Width) → batch w 0 ≡ batch w 1 → ⊥
-unfolding batch
-zero≢one w e = let h : _≡_ {A = ℕ} 0 1 = ap (λ (l : List ℕ). getD l 0 0) e in omega arith
+  first-byte : (x : ℕ) → first (batch (k .w) x) 0 ≡ x
+  first-byte x = ap (λ (l : List ℕ). getD l 0 0) (block-0 (k .w) x)
 
-is-batch : (w : Width) (x : ℕ) → x < 256 → Batch w (batch w x)
-unfolding batch
-is-batch w32 x h = record { long = refl; bytes = fit-cons x h (fit-test 8 (replicate 31 0) tt) }
-is-batch w64 x h = record { long = refl; bytes = fit-cons x h (fit-test 8 (replicate 63 0) tt) }
+  -- one that refuses everything
+  refuses : RefusesAll C
+  refuses = refuses-everything C can-1
 
--- ---- for any function f of the schedule and the batch, at each width
-module _ (w : Width) (f : ℕ → List ℕ → List ℕ → List ℕ) where
-  -- one that refuses everything, with whatever numbers
-  pub refuses-everything : (number : List ℕ → List ℕ → List ℕ → ℕ) → ((s i o : List ℕ) → number s i o ≡ 0 → ⊥)
-      → Meets w (λ s i o. answers (number s i o) o) (cryptOutcome f (16 * slots w)) → ⊥
-  refuses-everything number h m = h words (batch w 0) (batch w 0) (same-number (m words (batch w 0) (batch w 0) (good w 0 0) ∙ taken w f 0 0))
+  -- one that writes the same bytes each time
+  writes-same : (same : List ℕ) → Refuted C (λ a o. answers 0 same)
+  writes-same = writes-the-same C can-1 can-0 (λ e. k .apart (sym begins ∙ ap (λ (l : List ℕ). first l 0) e ∙ begins-0))
 
   -- one that writes nothing and answers 0
-  pub writes-nothing : Meets w (λ s i o. answers 0 o) (cryptOutcome f (16 * slots w)) → ⊥
-  writes-nothing m = zero≢one w (same-buffer (m words (batch w 0) (batch w 0) (good w 0 0) ∙ taken w f 0 0 ∙ sym (m words (batch w 0) (batch w 1) (good w 0 1) ∙ taken w f 0 1)))
+  writes-nothing : Refuted C (λ a o. answers 0 o)
+  writes-nothing = writes-another C can-1 (λ a o. o) (λ e. k .not-0 (sym begins ∙ sym (ap (λ (l : List ℕ). first l 0) e) ∙ first-byte 0))
 
-  -- one that writes the same bytes each time, where f is one-to-one
-  pub writes-the-same : ((i j : List ℕ) → Batch w i → Batch w j → f 10 words i ≡ f 10 words j → i ≡ j) → (same : List ℕ)
-      → Meets w (λ s i o. answers 0 same) (cryptOutcome f (16 * slots w)) → ⊥
-  writes-the-same one same m = zero≢one w (one (batch w 0) (batch w 1) (is-batch w 0 (lit< tt)) (is-batch w 1 (lit< tt))
-      (same-buffer (sym (taken w f 0 0) ∙ sym (m words (batch w 0) (batch w 0) (good w 0 0)) ∙ m words (batch w 1) (batch w 0) (good w 1 0) ∙ taken w f 1 0)))
+  -- one that copies its input
+  copies : (input : C .Args → List ℕ) → input (k .args 1) ≡ batch (k .w) 1 → Refuted C (λ a o. answers 0 (input a))
+  copies input is = writes-another C can-1 (λ a o. input a)
+      (λ e. k .not-1 (sym begins ∙ sym (ap (λ (l : List ℕ). first l 0) e) ∙ ap (λ (l : List ℕ). first l 0) is ∙ first-byte 1))
 
--- ---- the round keys that 88 zero words hold, in every slot and at each width
-zeroKeys : List (List ℕ)
-zeroKeys = replicate 16 0 ∷ replicate 10 (replicate 16 0x63)
+  -- one that does something else to the first block
+  does-another : (g : C .Args → List ℕ) (z : ℕ) → first (g (k .args 1)) 0 ≡ z → (z ≡ k .v → ⊥) → Refuted C (λ a o. answers 0 (g a))
+  does-another g z is ne = writes-another C can-1 (λ a o. g a) (λ e. ne (sym is ∙ ap (λ (l : List ℕ). first l 0) e ∙ begins))
 
-zero-reading : (w : Width) (b : ℕ) → b < slots w → reading w 10 words b ≡ zeroKeys
-unfolding reading stored readKey wordsAt slot words zeroKeys add63 rowsShifted shiftRows
-zero-reading w32 zero h = refl
-zero-reading w32 (suc zero) h = refl
-zero-reading w32 (suc (suc b)) h = absurd (omega arith)
-zero-reading w64 zero h = refl
-zero-reading w64 (suc zero) h = refl
-zero-reading w64 (suc (suc zero)) h = refl
-zero-reading w64 (suc (suc (suc zero))) h = refl
-zero-reading w64 (suc (suc (suc (suc b)))) h = absurd (omega arith)
+  -- one that has the first block's outcome in the second slot too
+  fills : (g : C .Args → List ℕ) → sixteen (g (k .args 1)) 1 ≡ k .c one-block → Refuted C (λ a o. answers 0 (g a))
+  fills g is = writes-another C can-1 (λ a o. g a)
+      (λ e. k .apart (sym (k .on-one) ∙ sym (ap (λ (l : List ℕ). getD l 0 0) is) ∙ ap (λ (l : List ℕ). first l 1) e ∙ second))
 
--- block 0 of the test batch
-one : List ℕ
-one = 1 ∷ replicate 15 0
+-- ---- the direction of a call: what it does to a block, its first round, and the first bytes of those
+record Direction : Type 0 where
+  way : Way
+  v : ℕ
+  u : ℕ
+  z : ℕ
+  on-one : getD (way .go (A1 .keys) one-block) 0 0 ≡ v
+  on-zero : getD (way .go (A1 .keys) zero-block) 0 0 ≡ u
+  first-step : List (List ℕ) → List ℕ → List ℕ
+  step-length : (ks : List (List ℕ)) (x : List ℕ) → length (first-step ks x) ≡ 16
+  step-one : getD (first-step (A1 .keys) one-block) 0 0 ≡ z
+  apart : v ≡ u → ⊥
+  not-0 : v ≡ 0 → ⊥
+  not-1 : v ≡ 1 → ⊥
+  not-step : z ≡ v → ⊥
 
-one-is : (w : Width) → sixteen (batch w 1) 0 ≡ one
-unfolding batch one
-one-is w32 = refl
-one-is w64 = refl
+encryption : Direction
+unfolding A1
+encryption = record {
+  way = forth;
+  v = 0x7e;
+  u = 0x7d;
+  z = 0xf4;
+  on-one = cipher-one;
+  on-zero = cipher-zero;
+  first-step = firstRound;
+  step-length = first-round-length;
+  step-one = round-one;
+  apart = λ e. omega arith;
+  not-0 = λ e. omega arith;
+  not-1 = λ e. omega arith;
+  not-step = λ e. omega arith;
+}
 
--- what Cipher and InvCipher give for it, computed
-cipher-value : getD (cipher zeroKeys one) 0 0 ≡ 0xb4
-unfolding zeroKeys one cipher rounds addRoundKey mixColumns shiftRows subBytes sbox affine inverse product xtime
-cipher-value = refl
+decryption : Direction
+unfolding A1
+decryption = record {
+  way = backwards;
+  v = 0x49;
+  u = 0xad;
+  z = 0xbb;
+  on-one = invCipher-one;
+  on-zero = invCipher-zero;
+  first-step = firstUnround;
+  step-length = first-unround-length;
+  step-one = unround-one;
+  apart = λ e. omega arith;
+  not-0 = λ e. omega arith;
+  not-1 = λ e. omega arith;
+  not-step = λ e. omega arith;
+}
 
-invCipher-value : getD (invCipher zeroKeys one) 0 0 ≡ 0xea
-unfolding zeroKeys one invCipher invRounds addRoundKey invMixColumns invShiftRows invSubBytes invSbox invAffine inverse product xtime
-invCipher-value = refl
+mod-0 : (w : Width) → 0 % slots w ≡ 0
+mod-0 w = mod-eq-of-lt (slot-0 w)
 
-some-slot : (w : Width) → 1 < slots w
-some-slot w32 = lit< tt
-some-slot w64 = lit< tt
+-- ---- encrypt and decrypt, at each width
+-- the first round of every block, and the rest skipped
+abbrev pub firstRoundOnly : (List (List ℕ) → List ℕ → List ℕ) → Width → CryptArgs → List ℕ
+firstRoundOnly step w a = eachBlock w (λ b. step (keysIn w (a .schedule) b)) (slots w) (a .input)
 
-first-slot : (w : Width) → 0 < slots w
-first-slot w32 = lit< tt
-first-slot w64 = lit< tt
+-- what slot 0 should hold, in every slot
+abbrev pub slot0Everywhere : (List (List ℕ) → List ℕ → List ℕ) → Width → CryptArgs → List ℕ
+slot0Everywhere c w a = eachBlock w (λ b x. c (keysIn w (a .schedule) 0) (sixteen (a .input) 0)) (slots w) (a .input)
 
-rest-is : (w : Width) → sixteen (batch w 1) 1 ≡ replicate 16 0
-unfolding batch
-rest-is w32 = refl
-rest-is w64 = refl
+module _ (d : Direction) (w : Width) where
+  abbrev go : List (List ℕ) → List ℕ → List ℕ
+  go = d .way .go
 
--- ---- for a function f that does c to each block: value is the first byte that c gives for the test block
-module _ (w : Width) (f : ℕ → List ℕ → List ℕ → List ℕ) (c : List (List ℕ) → List ℕ → List ℕ)
-    (each : (b : ℕ) → b < slots w → sixteen (f 10 words (batch w 1)) b ≡ c (reading w 10 words b) (sixteen (batch w 1) b))
-    (value : ℕ) (valued : getD (c zeroKeys one) 0 0 ≡ value) where
-  -- what a program writes for the test batch begins with that byte
-  begins : {x : List ℕ} → answers 0 x ≡ cryptOutcome f (16 * slots w) words (batch w 1) (batch w 0) → getD (sixteen x 0) 0 0 ≡ value
-  begins {x} e =
-      ap (λ (l : List ℕ). getD (sixteen l 0) 0 0) (same-buffer (e ∙ taken w f 1 0))
-      ∙ ap (λ (l : List ℕ). getD l 0 0) (each 0 (first-slot w) ∙ ap₂ c (zero-reading w 0 (first-slot w)) (one-is w))
-      ∙ valued
+  cryptBlocks : BlockCall (cryptCall go w)
+  cryptBlocks = record {
+    w = w;
+    args = crypt-args w A1;
+    can = can-crypt w A1 go;
+    c = go (A1 .keys);
+    each = each;
+    v = d .v;
+    u = d .u;
+    on-one = d .on-one;
+    on-zero = d .on-zero;
+    apart = d .apart;
+    not-0 = d .not-0;
+    not-1 = d .not-1;
+  }
+    where
+      each : (x b : ℕ) → x < 256 → b < slots w → sixteen (cryptCall go w .result (crypt-args w A1 x)) b ≡ go (A1 .keys) (sixteen (batch w x) b)
+      each x b h y =
+          crypt-is (d .way) (can-make (cryptCall go w) (can-crypt w A1 go x 0 h (lit< tt)) refl) b y
+          ∙ ap (λ (ks : List (List ℕ)). go ks (sixteen (batch w x) b)) (keys-are w A1 b y)
 
-  -- one that copies its input to its output
-  copies : (1 ≡ value → ⊥) → Meets w (λ s i o. answers 0 i) (cryptOutcome f (16 * slots w)) → ⊥
-  unfolding one
-  copies h m = h (sym (ap (λ (l : List ℕ). getD l 0 0) (one-is w)) ∙ begins (m words (batch w 1) (batch w 0) (good w 1 0)))
+  crypt-first-round : Refuted (cryptCall go w) (λ a o. answers 0 (firstRoundOnly (d .first-step) w a))
+  unfolding cryptBlocks
+  crypt-first-round = does-another cryptBlocks (firstRoundOnly (d .first-step) w) (d .z)
+      (ap (λ (l : List ℕ). getD l 0 0)
+      (block-at w (λ b. d .first-step (keysIn w (words w A1) b)) (λ b x. d .step-length _ x) (batch w 1) 0 (slot-0 w)
+      ∙ ap₂ (d .first-step) (ap (keysIn w (words w A1)) (mod-0 w) ∙ keys-are w A1 0 (slot-0 w)) (block-0 w 1))
+      ∙ d .step-one) (d .not-step)
 
-  -- one that does some other g to each block, where g gives another first byte
-  does-another : (g : List (List ℕ) → List ℕ → List ℕ) → ((ks : List (List ℕ)) (x : List ℕ) → length x ≡ 16 → length (g ks x) ≡ 16) → (getD (g zeroKeys one) 0 0 ≡ value → ⊥)
-      → Meets w (λ s i o. answers 0 (join (eachSlot w (λ b. g (reading w (roundsOf (length s)) s b) (sixteen i b))))) (cryptOutcome f (16 * slots w)) → ⊥
-  unfolding roundsOf words
-  does-another g long h m =
-      let d = is-batch w 1 (lit< tt) in
-      h (sym (ap (λ (l : List ℕ). getD l 0 0)
-      (sixteen-join w (λ b. g (reading w 10 words b) (sixteen (batch w 1) b)) (λ b y. long _ _ (batch-block w d b y .long)) 0 (first-slot w)
-      ∙ ap₂ g (zero-reading w 0 (first-slot w)) (one-is w)))
-      ∙ begins (m words (batch w 1) (batch w 0) (good w 1 0)))
-
-  -- one that fills every slot from slot 0, where c tells the test block from zeros
-  fills-from-slot-0 : length (c zeroKeys one) ≡ 16 → (c zeroKeys one ≡ c zeroKeys (replicate 16 0) → ⊥)
-      → Meets w (λ s i o. answers 0 (join (eachSlot w (λ b. c (reading w (roundsOf (length s)) s 0) (sixteen i 0))))) (cryptOutcome f (16 * slots w)) → ⊥
-  unfolding roundsOf words
-  fills-from-slot-0 long h m =
-      let e : c (reading w 10 words 0) (sixteen (batch w 1) 0) ≡ c zeroKeys one = ap₂ c (zero-reading w 0 (first-slot w)) (one-is w) in
-      h (sym (sixteen-join w (λ b. c (reading w 10 words 0) (sixteen (batch w 1) 0)) (λ b y. ap length e ∙ long) 1 (some-slot w) ∙ e)
-      ∙ ap (λ (l : List ℕ). sixteen l 1) (same-buffer (m words (batch w 1) (batch w 0) (good w 1 0) ∙ taken w f 1 0))
-      ∙ each 1 (some-slot w)
-      ∙ ap₂ c (zero-reading w 1 (some-slot w)) (rest-is w))
-
--- ---- the blocks in hand
-one-block : Block one
-unfolding one
-one-block = record { long = refl; bytes = fit-test 8 (1 ∷ replicate 15 0) tt }
-
-zero-keys : Blocks zeroKeys
-unfolding zeroKeys
-zero-keys = more zero-block (go 10)
-  where
-    go : (n : ℕ) → Blocks (replicate n (replicate 16 0x63))
-    go zero = none
-    go (suc n) = more (record { long = refl; bytes = fit-test 8 (replicate 16 0x63) tt }) (go n)
-
-one≢zero : one ≡ replicate 16 0 → ⊥
-unfolding one
-one≢zero e = let h : _≡_ {A = ℕ} 1 0 = ap (λ (l : List ℕ). getD l 0 0) e in omega arith
-
--- ---- encrypt
--- round 1, and the rest skipped
-pub firstRound : List (List ℕ) → List ℕ → List ℕ
-firstRound ks x = addRoundKey (mixColumns (shiftRows (subBytes (addRoundKey x (getD ks 0 []))))) (getD ks 1 [])
-
-first-round-value : getD (firstRound zeroKeys one) 0 0 ≡ 0x3e
-unfolding firstRound zeroKeys one addRoundKey mixColumns shiftRows subBytes sbox affine inverse product xtime
-first-round-value = refl
-
-first-round-length : (ks : List (List ℕ)) (x : List ℕ) → length x ≡ 16 → length (firstRound ks x) ≡ 16
-unfolding firstRound addRoundKey
-first-round-length ks x e = refl
-
-module _ (w : Width) where
-  encrypts : (b : ℕ) → b < slots w → sixteen (encryptedBatch w 10 words (batch w 1)) b ≡ cipher (reading w 10 words b) (sixteen (batch w 1) b)
-  encrypts b h = encrypted-slot w 10 words (is-batch w 1 (lit< tt)) b h
-
-  pub encrypt-refuses-everything : (number : List ℕ → List ℕ → List ℕ → ℕ) → ((s i o : List ℕ) → number s i o ≡ 0 → ⊥) → Meets w (λ s i o. answers (number s i o) o) (encryptOutcome w) → ⊥
-  encrypt-refuses-everything = refuses-everything w (encryptedBatch w)
-
-  pub encrypt-writes-the-same : (same : List ℕ) → Meets w (λ s i o. answers 0 same) (encryptOutcome w) → ⊥
-  encrypt-writes-the-same = writes-the-same w (encryptedBatch w) (λ i j d e h. encrypted-one w 10 words d e h)
-
-  pub encrypt-copies : Meets w (λ s i o. answers 0 i) (encryptOutcome w) → ⊥
-  encrypt-copies = copies w (encryptedBatch w) cipher encrypts 0xb4 cipher-value (λ e. omega arith)
-
-  pub encrypt-writes-nothing : Meets w (λ s i o. answers 0 o) (encryptOutcome w) → ⊥
-  encrypt-writes-nothing = writes-nothing w (encryptedBatch w)
-
-  pub encrypt-first-round-only : Meets w (λ s i o. answers 0 (join (eachSlot w (λ b. firstRound (reading w (roundsOf (length s)) s b) (sixteen i b))))) (encryptOutcome w) → ⊥
-  encrypt-first-round-only = does-another w (encryptedBatch w) cipher encrypts 0xb4 cipher-value firstRound first-round-length
-      (λ e. let h : _≡_ {A = ℕ} 0x3e 0xb4 = sym first-round-value ∙ e in omega arith)
-
-  pub encrypt-fills-from-slot-0 : Meets w (λ s i o. answers 0 (join (eachSlot w (λ b. cipher (reading w (roundsOf (length s)) s 0) (sixteen i 0))))) (encryptOutcome w) → ⊥
-  encrypt-fills-from-slot-0 = fills-from-slot-0 w (encryptedBatch w) cipher encrypts 0xb4 cipher-value (cipher-block zero-keys one-block .long)
-      (λ e. one≢zero (cipher-one zero-keys one-block zero-block e))
-
--- ---- decrypt
--- the first round that decryption does, and the rest skipped
-pub firstUnround : List (List ℕ) → List ℕ → List ℕ
-firstUnround ks x = invSubBytes (invShiftRows (addRoundKey x (getD ks 10 [])))
-
-first-unround-value : getD (firstUnround zeroKeys one) 0 0 ≡ 0xab
-unfolding firstUnround zeroKeys one addRoundKey invShiftRows invSubBytes invSbox invAffine inverse product xtime
-first-unround-value = refl
-
-first-unround-length : (ks : List (List ℕ)) (x : List ℕ) → length x ≡ 16 → length (firstUnround ks x) ≡ 16
-unfolding firstUnround invShiftRows invSubBytes
-first-unround-length ks x e = refl
+  crypt-slot-0 : Refuted (cryptCall go w) (λ a o. answers 0 (slot0Everywhere go w a))
+  unfolding cryptBlocks
+  crypt-slot-0 = fills cryptBlocks (slot0Everywhere go w)
+      (block-at w (λ b x. go (keysIn w (words w A1) 0) (sixteen (batch w 1) 0)) (λ b x. long) (batch w 1) 1 (slot-1 w)
+      ∙ ap₂ go (keys-are w A1 0 (slot-0 w)) (block-0 w 1))
+    where
+      long : length (go (keysIn w (words w A1) 0) (sixteen (batch w 1) 0)) ≡ 16
+      long = d .way .go-block (keys (d .way) w (roundsOf (words w A1)) (keysOf (words w A1)) 0) (block-of (batch-data w 1 (lit< tt)) 0 (slot-0 w)) .long
 
 module _ (w : Width) where
-  decrypts : (b : ℕ) → b < slots w → sixteen (decryptedBatch w 10 words (batch w 1)) b ≡ invCipher (reading w 10 words b) (sixteen (batch w 1) b)
-  decrypts b h = decrypted-slot w 10 words (is-batch w 1 (lit< tt)) b h
+  pub encrypt-refuses-everything : RefusesAll (encryptCall w)
+  unfolding encryption
+  encrypt-refuses-everything = refuses (cryptBlocks encryption w)
 
-  pub decrypt-refuses-everything : (number : List ℕ → List ℕ → List ℕ → ℕ) → ((s i o : List ℕ) → number s i o ≡ 0 → ⊥) → Meets w (λ s i o. answers (number s i o) o) (decryptOutcome w) → ⊥
-  decrypt-refuses-everything = refuses-everything w (decryptedBatch w)
+  pub encrypt-writes-the-same : (same : List ℕ) → Refuted (encryptCall w) (λ a o. answers 0 same)
+  unfolding encryption
+  encrypt-writes-the-same = writes-same (cryptBlocks encryption w)
 
-  pub decrypt-writes-the-same : (same : List ℕ) → Meets w (λ s i o. answers 0 same) (decryptOutcome w) → ⊥
-  decrypt-writes-the-same = writes-the-same w (decryptedBatch w)
-      (λ i j d e h. sym (encrypted-decrypted w 10 words d) ∙ ap (encryptedBatch w 10 words) h ∙ encrypted-decrypted w 10 words e)
+  pub encrypt-copies : Refuted (encryptCall w) (λ a o. answers 0 (a .input))
+  unfolding encryption cryptBlocks
+  encrypt-copies = copies (cryptBlocks encryption w) (λ a. a .input) refl
 
-  pub decrypt-copies : Meets w (λ s i o. answers 0 i) (decryptOutcome w) → ⊥
-  decrypt-copies = copies w (decryptedBatch w) invCipher decrypts 0xea invCipher-value (λ e. omega arith)
+  pub encrypt-writes-nothing : Refuted (encryptCall w) (λ a o. answers 0 o)
+  unfolding encryption
+  encrypt-writes-nothing = writes-nothing (cryptBlocks encryption w)
 
-  pub decrypt-writes-nothing : Meets w (λ s i o. answers 0 o) (decryptOutcome w) → ⊥
-  decrypt-writes-nothing = writes-nothing w (decryptedBatch w)
+  pub encrypt-first-round-only : Refuted (encryptCall w) (λ a o. answers 0 (firstRoundOnly firstRound w a))
+  unfolding encryption
+  encrypt-first-round-only = crypt-first-round encryption w
 
-  pub decrypt-first-round-only : Meets w (λ s i o. answers 0 (join (eachSlot w (λ b. firstUnround (reading w (roundsOf (length s)) s b) (sixteen i b))))) (decryptOutcome w) → ⊥
-  decrypt-first-round-only = does-another w (decryptedBatch w) invCipher decrypts 0xea invCipher-value firstUnround first-unround-length
-      (λ e. let h : _≡_ {A = ℕ} 0xab 0xea = sym first-unround-value ∙ e in omega arith)
+  pub encrypt-fills-from-slot-0 : Refuted (encryptCall w) (λ a o. answers 0 (slot0Everywhere cipher w a))
+  unfolding encryption
+  encrypt-fills-from-slot-0 = crypt-slot-0 encryption w
 
-  pub decrypt-fills-from-slot-0 : Meets w (λ s i o. answers 0 (join (eachSlot w (λ b. invCipher (reading w (roundsOf (length s)) s 0) (sixteen i 0))))) (decryptOutcome w) → ⊥
-  decrypt-fills-from-slot-0 = fills-from-slot-0 w (decryptedBatch w) invCipher decrypts 0xea invCipher-value (invCipher-block zero-keys one-block .long)
-      (λ e. one≢zero (sym (cipher-invCipher zero-keys one-block) ∙ ap (cipher zeroKeys) e ∙ cipher-invCipher zero-keys zero-block))
+  pub decrypt-refuses-everything : RefusesAll (decryptCall w)
+  unfolding decryption
+  decrypt-refuses-everything = refuses (cryptBlocks decryption w)
+
+  pub decrypt-writes-the-same : (same : List ℕ) → Refuted (decryptCall w) (λ a o. answers 0 same)
+  unfolding decryption
+  decrypt-writes-the-same = writes-same (cryptBlocks decryption w)
+
+  pub decrypt-copies : Refuted (decryptCall w) (λ a o. answers 0 (a .input))
+  unfolding decryption cryptBlocks
+  decrypt-copies = copies (cryptBlocks decryption w) (λ a. a .input) refl
+
+  pub decrypt-writes-nothing : Refuted (decryptCall w) (λ a o. answers 0 o)
+  unfolding decryption
+  decrypt-writes-nothing = writes-nothing (cryptBlocks decryption w)
+
+  pub decrypt-first-round-only : Refuted (decryptCall w) (λ a o. answers 0 (firstRoundOnly firstUnround w a))
+  unfolding decryption
+  decrypt-first-round-only = crypt-first-round decryption w
+
+  pub decrypt-fills-from-slot-0 : Refuted (decryptCall w) (λ a o. answers 0 (slot0Everywhere invCipher w a))
+  unfolding decryption
+  decrypt-fills-from-slot-0 = crypt-slot-0 decryption w
+
+-- ---- the door, in each direction
+abbrev pub doorFirstRoundOnly : (List (List ℕ) → List ℕ → List ℕ) → DoorArgs → List ℕ
+doorFirstRoundOnly step a = eachBlock w64 (λ b. step (roundKeys (a .key))) (slots w64) (a .input)
+
+abbrev pub doorSlot0Everywhere : (List (List ℕ) → List ℕ → List ℕ) → DoorArgs → List ℕ
+doorSlot0Everywhere c a = eachBlock w64 (λ b x. c (roundKeys (a .key)) (sixteen (a .input) 0)) (slots w64) (a .input)
+
+module _ (n : ℕ) (le : n ≤ 1) (d : Direction) (is : directed n ≡ d .way .go) where
+  doorBlocks : BlockCall (doorCall n)
+  doorBlocks = record {
+    w = w64;
+    args = door-args A1;
+    can = λ x y h l. can-door A1 n x y le h l;
+    c = d .way .go (A1 .keys);
+    each = each;
+    v = d .v;
+    u = d .u;
+    on-one = d .on-one;
+    on-zero = d .on-zero;
+    apart = d .apart;
+    not-0 = d .not-0;
+    not-1 = d .not-1;
+  }
+    where
+      each : (x b : ℕ) → x < 256 → b < slots w64 → sixteen (doorCall n .result (door-args A1 x)) b ≡ d .way .go (A1 .keys) (sixteen (batch w64 x) b)
+      each x b h y =
+          door-is n (d .way) is (can-make (doorCall n) (can-door A1 n x 0 le h (lit< tt)) refl) b y
+          ∙ ap (λ (ks : List (List ℕ)). d .way .go ks (sixteen (batch w64 x) b)) (A1 .expansion)
+
+  door-first-round : Refuted (doorCall n) (λ a o. answers 0 (doorFirstRoundOnly (d .first-step) a))
+  unfolding doorBlocks
+  door-first-round = does-another doorBlocks (doorFirstRoundOnly (d .first-step)) (d .z)
+      (ap (λ (l : List ℕ). getD l 0 0)
+      (block-at w64 (λ b. d .first-step (roundKeys (A1 .key))) (λ b x. d .step-length _ x) (batch w64 1) 0 (slot-0 w64)
+      ∙ ap₂ (d .first-step) (A1 .expansion) (block-0 w64 1))
+      ∙ d .step-one) (d .not-step)
+
+  door-slot-0 : Refuted (doorCall n) (λ a o. answers 0 (doorSlot0Everywhere (d .way .go) a))
+  unfolding doorBlocks
+  door-slot-0 = fills doorBlocks (doorSlot0Everywhere (d .way .go))
+      (block-at w64 (λ b x. d .way .go (roundKeys (A1 .key)) (sixteen (batch w64 1) 0)) (λ b x. long) (batch w64 1) 1 (slot-1 w64)
+      ∙ ap₂ (d .way .go) (A1 .expansion) (block-0 w64 1))
+    where
+      long : length (d .way .go (roundKeys (A1 .key)) (sixteen (batch w64 1) 0)) ≡ 16
+      long = d .way .go-block (keys-of (record { right-length = A1 .keyed; bytes = A1 .fits })) (block-of (batch-data w64 1 (lit< tt)) 0 (slot-0 w64)) .long
+
+door-0 : BlockCall (doorCall 0)
+unfolding encryption
+door-0 = doorBlocks 0 (lit≤ tt) encryption refl
+
+door-1 : BlockCall (doorCall 1)
+unfolding decryption
+door-1 = doorBlocks 1 (lit≤ tt) decryption refl
+
+pub door-0-refuses-everything : RefusesAll (doorCall 0)
+door-0-refuses-everything = refuses door-0
+
+pub door-0-writes-the-same : (same : List ℕ) → Refuted (doorCall 0) (λ a o. answers 0 same)
+door-0-writes-the-same = writes-same door-0
+
+pub door-0-copies : Refuted (doorCall 0) (λ a o. answers 0 (a .input))
+unfolding door-0 doorBlocks
+door-0-copies = copies door-0 (λ a. a .input) refl
+
+pub door-0-writes-nothing : Refuted (doorCall 0) (λ a o. answers 0 o)
+door-0-writes-nothing = writes-nothing door-0
+
+pub door-0-first-round-only : Refuted (doorCall 0) (λ a o. answers 0 (doorFirstRoundOnly firstRound a))
+unfolding encryption
+door-0-first-round-only = door-first-round 0 (lit≤ tt) encryption refl
+
+pub door-0-fills-from-slot-0 : Refuted (doorCall 0) (λ a o. answers 0 (doorSlot0Everywhere cipher a))
+unfolding encryption
+door-0-fills-from-slot-0 = door-slot-0 0 (lit≤ tt) encryption refl
+
+pub door-1-refuses-everything : RefusesAll (doorCall 1)
+door-1-refuses-everything = refuses door-1
+
+pub door-1-writes-the-same : (same : List ℕ) → Refuted (doorCall 1) (λ a o. answers 0 same)
+door-1-writes-the-same = writes-same door-1
+
+pub door-1-copies : Refuted (doorCall 1) (λ a o. answers 0 (a .input))
+unfolding door-1 doorBlocks
+door-1-copies = copies door-1 (λ a. a .input) refl
+
+pub door-1-writes-nothing : Refuted (doorCall 1) (λ a o. answers 0 o)
+door-1-writes-nothing = writes-nothing door-1
+
+pub door-1-first-round-only : Refuted (doorCall 1) (λ a o. answers 0 (doorFirstRoundOnly firstUnround a))
+unfolding decryption
+door-1-first-round-only = door-first-round 1 (lit≤ tt) decryption refl
+
+pub door-1-fills-from-slot-0 : Refuted (doorCall 1) (λ a o. answers 0 (doorSlot0Everywhere invCipher a))
+unfolding decryption
+door-1-fills-from-slot-0 = door-slot-0 1 (lit≤ tt) decryption refl
+
+-- a direction that is neither is refused, by 5
+pub door-direction-2 : (x : List ℕ) → answers 0 x ≡ doorOutcome 2 (A1 .key) (batch w64 0) (batch w64 0) → ⊥
+unfolding doorOutcome batch
+door-direction-2 x e =
+    let five : doorOutcome 2 (A1 .key) (batch w64 0) (batch w64 0) ≡ answers 5 (batch w64 0) = rw (is-not (A1 .keyed)) in
+    let z : _≡_ {A = ℕ} 0 5 = same-number (e ∙ five) in
+    omega arith
+
+-- a wrong key length is reported before anything else that is wrong
+pub door-key-first : (r : ℕ) (x : List ℕ) → answers r x ≡ doorOutcome 2 (replicate 17 0) (replicate 63 0) (replicate 65 0) → r ≡ 1
+unfolding doorOutcome keyWordsOf keySize
+door-key-first r x e = same-number e
+
+-- ---- expand, at each width. (A program that fills every slot from slot 0 is right here.)
+-- two buffers of n words, and the front of each written alike
+fronts : (n m : ℕ) → m < n → (g : List ℕ) → length g ≡ m → g ++ drop m (replicate n 0) ≡ g ++ drop m (replicate n 1) → ⊥
+fronts n m h g e p =
+    let last : (y : ℕ) → getD (g ++ drop m (replicate n y)) (length g + (n - 1 - m)) 0 ≡ y = λ y.
+    getD-append-add g (drop m (replicate n y)) (n - 1 - m) 0
+    ∙ getD-drop m (replicate n y) (n - 1 - m) 0
+    ∙ getD-replicate n (m + (n - 1 - m)) y 0 (omega arith) in
+    let z : _≡_ {A = ℕ} 0 1 = sym (last 0) ∙ ap (λ (l : List ℕ). getD l (length g + (n - 1 - m)) 0) p ∙ last 1 in
+    omega arith
+
+-- the words of the key's own round keys and of the first new one
+abbrev pub firstKeys : List ℕ → ℕ
+firstKeys key = 8 * (keyWordsOf key / 4 + 1)
+
+size-A1 : scheduleWords (A1 .key) ≡ 88
+unfolding scheduleWords keySize A1 keyA1
+size-A1 = refl
+
+nk-A1 : keyWordsOf (A1 .key) ≡ 4
+unfolding A1
+nk-A1 = words-A1
+
+length-A1 : length (A1 .key) ≡ 16
+unfolding A1 keyA1
+length-A1 = refl
+
+key-A1 : A1 .key ≡ keyA1
+unfolding A1
+key-A1 = refl
+
+last-key : getD (getD (A1 .keys) 10 []) 0 0 ≡ 0xd0
+unfolding A1 roundKeysA1
+last-key = refl
+
+keys-differ : getD (A1 .key) 0 0 ≡ getD (ones .key) 0 0 → ⊥
+unfolding A1 keyA1
+keys-differ e = let z : _≡_ {A = ℕ} 0x2b 1 = e ∙ ap (λ (l : List ℕ). getD l 0 0) ones-key in omega arith
+
+-- what the last round key of zeros after the key reads as
+cleared : (w : Width) → getD (getD (keysIn w (keyA1 ++ replicate 72 0) 0) 10 []) 0 0 ≡ 0x63
+unfolding keyA1 roundsOf scheduleSize keysOf reading readKey stored wordsAt slot add63 rowsShifted shiftRows
+cleared w32 = refl
+cleared w64 = refl
+
+module _ (w : Width) where
+  expand-1 : Can (expandCall w) (A1 .key) (room w A1 0)
+  expand-1 = can-expand w A1 0 (lit< tt)
+
+  expand-2 : Can (expandCall w) (A1 .key) (room w A1 1)
+  expand-2 = can-expand w A1 1 (lit< tt)
+
+  -- one that writes some first words, however many, and leaves the rest as it was
+  leaves-rest : (n : List ℕ → ℕ) (g : List ℕ → List ℕ) → n (A1 .key) < 88 → length (g (A1 .key)) ≡ n (A1 .key)
+      → Refuted (expandCall w) (λ key o. answers 0 (g key ++ drop (n key) o))
+  leaves-rest n g h e = writes-by-buffer (expandCall w) expand-1 expand-2 (λ key o. g key ++ drop (n key) o)
+      (λ p. fronts (scheduleWords (A1 .key)) (n (A1 .key)) (omega (arith, size-A1)) (g (A1 .key)) e p)
+
+  pub expand-refuses-everything : RefusesAll (expandCall w)
+  expand-refuses-everything = refuses-everything (expandCall w) expand-1
+
+  -- the same words for every key of a length
+  pub expand-writes-the-same : (same : ℕ → List ℕ) → Refuted (expandCall w) (λ key o. answers 0 (same (length key)))
+  expand-writes-the-same same m =
+      let n : keyWordsOf (ones .key) ≡ keyWordsOf (A1 .key) = ap keyWordsOf ones-key ∙ words-ones ∙ sym nk-A1 in
+      keys-differ (ap (λ (l : List ℕ). getD l 0 0) (schedule-one w (keyWordsOf (A1 .key)) (A1 .key) (ones .key)
+      (rw nk-A1 (lit≤ tt)) (rw nk-A1 (lit≤ tt)) (length-A1 ∙ rw nk-A1) (A1 .fits) (ap length ones-key ∙ rw nk-A1) (ones .fits)
+      (sym (left A1 expand-1)
+      ∙ ap same (length-A1 ∙ sym (ap length ones-key))
+      ∙ left ones (can-expand w ones 0 (lit< tt))
+      ∙ ap (λ (k : ℕ). scheduleOf w k (ones .key)) n)))
+    where
+      left : (k : Sample) → Can (expandCall w) (k .key) (room w k 0) → same (length (k .key)) ≡ scheduleOf w (keyWordsOf (k .key)) (k .key)
+      left k can = same-left (m (k .key) (room w k 0) can ∙ expandCall w .taken (k .key) (room w k 0) (can .good))
+
+  -- the key copied, as many elements as it has, and the rest left
+  pub expand-copies : Refuted (expandCall w) (λ key o. answers 0 (key ++ drop (length key) o))
+  expand-copies = leaves-rest length (λ key. key) (omega (arith, length-A1)) refl
+
+  -- the key copied, and the rest filled with zeros: the last round key would read as sixteen bytes 63
+  pub expand-copies-and-clears : Refuted (expandCall w) (λ key o. answers 0 (key ++ replicate (length o - length key) 0))
+  unfolding words
+  expand-copies-and-clears = writes-another (expandCall w) expand-1 (λ key o. key ++ replicate (length o - length key) 0) (λ e.
+      let z : _≡_ {A = ℕ} 0x63 0xd0 =
+      sym (cleared w)
+      ∙ ap (λ (l : List ℕ). getD (getD (keysIn w l 0) 10 []) 0 0) (sym copied ∙ e)
+      ∙ ap (λ (ks : List (List ℕ)). getD (getD ks 10 []) 0 0) (keys-are w A1 0 (slot-0 w)) ∙ last-key in
+      omega arith)
+    where
+      copied : A1 .key ++ replicate (length (room w A1 0) - length (A1 .key)) 0 ≡ keyA1 ++ replicate 72 0
+      copied = ap₂ (λ (k : List ℕ) (n : ℕ). k ++ replicate n 0) key-A1 (ap₂ _-_ (length-replicate (scheduleWords (A1 .key)) 0 ∙ size-A1) length-A1)
+
+  pub expand-writes-nothing : Refuted (expandCall w) (λ key o. answers 0 o)
+  expand-writes-nothing = leaves-rest (λ key. 0) (λ key. []) (lit< tt) refl
+
+  -- the first new round key only, and the rest left
+  pub expand-first-key-only : Refuted (expandCall w) (λ key o. answers 0 (take (firstKeys key) (scheduleOf w (keyWordsOf key) key) ++ drop (firstKeys key) o))
+  expand-first-key-only = leaves-rest firstKeys (λ key. take (firstKeys key) (scheduleOf w (keyWordsOf key) key)) (rw nk-A1 (lit< tt))
+      (length-take-le (firstKeys (A1 .key)) (scheduleOf w (keyWordsOf (A1 .key)) (A1 .key))
+      (rw (schedule-length w (keyWordsOf (A1 .key)) (A1 .key), nk-A1) (lit≤ tt)))
+
+-- ---- the key check value, at each width. (It has no input to copy, and one slot only.)
+module _ (w : Width) where
+  check-begins : (k : Sample) → getD (checkValue w (words w k)) 0 0 ≡ getD (cipher (k .keys) zero-block) 0 0
+  unfolding checkValue
+  check-begins k =
+      getD-take 3 (cipher (keysIn w (words w k) 0) zero-block) 0 0 (lit< tt)
+      ∙ ap (λ (ks : List (List ℕ)). getD (cipher ks zero-block) 0 0) (keys-are w k 0 (slot-0 w))
+
+  check-A1 : getD (checkValue w (words w A1)) 0 0 ≡ 0x7d
+  unfolding A1
+  check-A1 = check-begins A1 ∙ cipher-zero
+
+  check-A3 : getD (checkValue w (words w A3)) 0 0 ≡ 0xe5
+  unfolding A3
+  check-A3 = check-begins A3 ∙ cipher-zero-A3
+
+  pub check-refuses-everything : RefusesAll (checkCall w)
+  check-refuses-everything = refuses-everything (checkCall w) (can-check w A1)
+
+  pub check-writes-the-same : (same : List ℕ) → Refuted (checkCall w) (λ s o. answers 0 same)
+  check-writes-the-same = writes-the-same (checkCall w) (can-check w A1) (can-check w A3)
+      (λ e. let z : _≡_ {A = ℕ} 0x7d 0xe5 = sym check-A1 ∙ ap (λ (l : List ℕ). getD l 0 0) e ∙ check-A3 in omega arith)
+
+  pub check-writes-nothing : Refuted (checkCall w) (λ s o. answers 0 o)
+  check-writes-nothing = writes-another (checkCall w) (can-check w A1) (λ s o. o)
+      (λ e. let z : _≡_ {A = ℕ} 0 0x7d = ap (λ (l : List ℕ). getD l 0 0) e ∙ check-A1 in omega arith)
+
+  pub check-first-round-only : Refuted (checkCall w) (λ s o. answers 0 (take 3 (firstRound (keysIn w s 0) zero-block)))
+  unfolding A1
+  check-first-round-only = writes-another (checkCall w) (can-check w A1) (λ s o. take 3 (firstRound (keysIn w s 0) zero-block))
+      (λ e. let z : _≡_ {A = ℕ} 0xdc 0x7d = sym (begins-round) ∙ ap (λ (l : List ℕ). getD l 0 0) e ∙ check-A1 in omega arith)
+    where
+      begins-round : getD (take 3 (firstRound (keysIn w (words w A1) 0) zero-block)) 0 0 ≡ 0xdc
+      begins-round =
+          getD-take 3 (firstRound (keysIn w (words w A1) 0) zero-block) 0 0 (lit< tt)
+          ∙ ap (λ (ks : List (List ℕ)). getD (firstRound ks zero-block) 0 0) (keys-are w A1 0 (slot-0 w))
+          ∙ round-zero

@@ -1,62 +1,112 @@
 // The width of 32 bits: two blocks in eight words. A row has 8 bits, a column of it 2.
+ghost use Rattle.lanes.specs.Layout.{w32 as w};
+
+type Word = u32;
+
+const BITS: u32 = 32;
+
+// The Rust's pack_rows of the bytes that a name says: a byte to each row, row 0 lowest.
+const PACK_ROWS_00_03_0F_0C: Word = 0x0c0f0300;
+
+const PACK_ROWS_00_0F_00_0F: Word = 0x0f000f00;
+
+const PACK_ROWS_00_0C_0F_03: Word = 0x030f0c00;
+
+const PACK_ROWS_00_33_00_33: Word = 0x33003300;
+
+const PACK_ROWS_00_C0_00_00: Word = 0x0000c000;
+
+// The Rust's uniform_row: the same byte to every row.
+pub const UNIFORM_ROW_03: Word = 0x03030303;
+
+pub const UNIFORM_ROW_0F: Word = 0x0f0f0f0f;
+
+pub const UNIFORM_ROW_3F: Word = 0x3f3f3f3f;
+
+pub const UNIFORM_ROW_C0: Word = 0xc0c0c0c0;
+
+pub const UNIFORM_ROW_F0: Word = 0xf0f0f0f0;
+
+pub const UNIFORM_ROW_FC: Word = 0xfcfcfcfc;
+
+// ---- the same at both widths
+
 ghost use mathlib.Core.Path.{_≡_};
 ghost use Prim.Native.Nat.{_+_, _-_, _*_, _<_, _≤_};
 ghost use lib.ListN.{length};
-ghost use Rattle.lanes.specs.Layout.{w32, Does, all, packRows};
-ghost use Rattle.lanes.specs.Leaves.{rowsShifted, rowsUnshifted, addKeyOf, addConstant};
+ghost use Rattle.lanes.specs.Layout.{bits};
+ghost use Rattle.lanes.specs.Masks.{packRows};
+ghost use Rattle.lanes.specs.Schedule.{rowsShifted, rowsUnshifted, wordsAt};
+ghost use Rattle.lanes.specs.Leaves.{Does, all, addKeyOf, addConstant, put, Changes, nextKeyOf};
 ghost use Rattle.lanes.specs.Programs.{words, ror as rorWord, deltaSwap1, upper, lower, shiftWord, columnWord};
 ghost use lib.Bits.{bitXor};
-ghost use Rattle.lanes.specs.Schedule.{put, wordsAt, Changes, nextKeyOf};
 
-// A word rotated right. Every distance lies strictly between 0 and 32.
-pub fn ror(x: u32, n: u32) -> u32
-    requires { ⌜ (0 < n) × (n < 32) ⌝ }
-    ensures { λ r. ⌜ r ≡ rorWord (words w32) w32 x n ⌝ }
+// A row, and one, two and three columns of it.
+pub const ROW_BITS: u32 = BITS / 4;
+
+pub const QUARTER_ROW: u32 = ROW_BITS / 4;
+
+const HALF_ROW: u32 = ROW_BITS / 2;
+
+const THREE_QUARTERS: u32 = 3 * QUARTER_ROW;
+
+// A word rotated right. Every distance lies strictly between 0 and the width.
+pub fn ror(x: Word, n: u32) -> Word
+    requires { ⌜ (0 < n) × (n < bits w) ⌝ }
+    ensures { λ r. ⌜ r ≡ rorWord (words w) w x n ⌝ }
 {
-    (x >> n) | (x << (32 - n))
+    (x >> n) | (x << (BITS - n))
 }
 
-pub fn delta_swap_1(a: u32, shift: u32, mask: u32) -> u32
-    requires { ⌜ shift < 32 ⌝ }
-    ensures { λ r. ⌜ r ≡ deltaSwap1 (words w32) w32 shift mask a ⌝ }
+pub fn delta_swap_1(a: Word, shift: u32, mask: Word) -> Word
+    requires { ⌜ shift < bits w ⌝ }
+    ensures { λ r. ⌜ r ≡ deltaSwap1 (words w) w shift mask a ⌝ }
 {
     let t = (a ^ (a >> shift)) & mask;
     a ^ (t ^ (t << shift))
 }
 
 // The two words after a swap.
-pub struct Pair(pub u32, pub u32);
+pub struct Pair(pub Word, pub Word);
 
-pub fn delta_swap_2(a: u32, b: u32, shift: u32, mask: u32) -> Pair
-    requires { ⌜ shift < 32 ⌝ }
-    ensures { λ r. ⌜ (r .0 ≡ upper (words w32) w32 shift mask a b) × (r .1 ≡ lower (words w32) w32 shift mask a b) ⌝ }
+pub fn delta_swap_2(a: Word, b: Word, shift: u32, mask: Word) -> Pair
+    requires { ⌜ shift < bits w ⌝ }
+    ensures { λ r. ⌜ (r .0 ≡ upper (words w) w shift mask a b) × (r .1 ≡ lower (words w) w shift mask a b) ⌝ }
 {
     let t = (a ^ (b >> shift)) & mask;
     Pair(a ^ t, b ^ (t << shift))
 }
 
 // ShiftRows on one word, once, twice and three times.
-fn shift_word_1(x: u32) -> u32
-    ensures { λ r. ⌜ r ≡ shiftWord (words w32) w32 1 x ⌝ }
+fn shift_word_1(x: Word) -> Word
+    ensures { λ r. ⌜ r ≡ shiftWord (words w) w 1 x ⌝ }
 {
-    delta_swap_1(delta_swap_1(x, 4, 0x0c0f0300), 2, 0x33003300)
+    delta_swap_1(
+        delta_swap_1(x, HALF_ROW, PACK_ROWS_00_03_0F_0C),
+        QUARTER_ROW,
+        PACK_ROWS_00_33_00_33,
+    )
 }
 
-fn shift_word_2(x: u32) -> u32
-    ensures { λ r. ⌜ r ≡ shiftWord (words w32) w32 2 x ⌝ }
+fn shift_word_2(x: Word) -> Word
+    ensures { λ r. ⌜ r ≡ shiftWord (words w) w 2 x ⌝ }
 {
-    delta_swap_1(x, 4, 0x0f000f00)
+    delta_swap_1(x, HALF_ROW, PACK_ROWS_00_0F_00_0F)
 }
 
-fn shift_word_3(x: u32) -> u32
-    ensures { λ r. ⌜ r ≡ shiftWord (words w32) w32 3 x ⌝ }
+fn shift_word_3(x: Word) -> Word
+    ensures { λ r. ⌜ r ≡ shiftWord (words w) w 3 x ⌝ }
 {
-    delta_swap_1(delta_swap_1(x, 4, 0x030f0c00), 2, 0x33003300)
+    delta_swap_1(
+        delta_swap_1(x, HALF_ROW, PACK_ROWS_00_0C_0F_03),
+        QUARTER_ROW,
+        PACK_ROWS_00_33_00_33,
+    )
 }
 
 // Applies ShiftRows once on an AES state (or key).
-pub fn shift_rows_1(state: [u32; 8]) -> [u32; 8]
-    ensures { λ r. ⌜ Does w32 (all (rowsShifted 1)) state r ⌝ }
+pub fn shift_rows_1(state: [Word; 8]) -> [Word; 8]
+    ensures { λ r. ⌜ Does w (all (rowsShifted 1)) state r ⌝ }
 {
     [
         shift_word_1(state[0]),
@@ -71,8 +121,8 @@ pub fn shift_rows_1(state: [u32; 8]) -> [u32; 8]
 }
 
 // Applies ShiftRows twice on an AES state (or key).
-pub fn shift_rows_2(state: [u32; 8]) -> [u32; 8]
-    ensures { λ r. ⌜ Does w32 (all (rowsShifted 2)) state r ⌝ }
+pub fn shift_rows_2(state: [Word; 8]) -> [Word; 8]
+    ensures { λ r. ⌜ Does w (all (rowsShifted 2)) state r ⌝ }
 {
     [
         shift_word_2(state[0]),
@@ -87,8 +137,8 @@ pub fn shift_rows_2(state: [u32; 8]) -> [u32; 8]
 }
 
 // Applies ShiftRows three times on an AES state (or key).
-pub fn shift_rows_3(state: [u32; 8]) -> [u32; 8]
-    ensures { λ r. ⌜ Does w32 (all (rowsShifted 3)) state r ⌝ }
+pub fn shift_rows_3(state: [Word; 8]) -> [Word; 8]
+    ensures { λ r. ⌜ Does w (all (rowsShifted 3)) state r ⌝ }
 {
     [
         shift_word_3(state[0]),
@@ -102,28 +152,28 @@ pub fn shift_rows_3(state: [u32; 8]) -> [u32; 8]
     ]
 }
 
-pub fn inv_shift_rows_1(state: [u32; 8]) -> [u32; 8]
-    ensures { λ r. ⌜ Does w32 (all (rowsUnshifted 1)) state r ⌝ }
+pub fn inv_shift_rows_1(state: [Word; 8]) -> [Word; 8]
+    ensures { λ r. ⌜ Does w (all (rowsUnshifted 1)) state r ⌝ }
 {
     shift_rows_3(state)
 }
 
-pub fn inv_shift_rows_2(state: [u32; 8]) -> [u32; 8]
-    ensures { λ r. ⌜ Does w32 (all (rowsUnshifted 2)) state r ⌝ }
+pub fn inv_shift_rows_2(state: [Word; 8]) -> [Word; 8]
+    ensures { λ r. ⌜ Does w (all (rowsUnshifted 2)) state r ⌝ }
 {
     shift_rows_2(state)
 }
 
-pub fn inv_shift_rows_3(state: [u32; 8]) -> [u32; 8]
-    ensures { λ r. ⌜ Does w32 (all (rowsUnshifted 3)) state r ⌝ }
+pub fn inv_shift_rows_3(state: [Word; 8]) -> [Word; 8]
+    ensures { λ r. ⌜ Does w (all (rowsUnshifted 3)) state r ⌝ }
 {
     shift_rows_1(state)
 }
 
 // XORs the round key, eight words of a schedule, into the state.
-pub fn add_round_key(state: [u32; 8], rkey: &[u32]) -> [u32; 8]
+pub fn add_round_key(state: [Word; 8], rkey: &[Word]) -> [Word; 8]
     requires { ⌜ length (now rkey) ≡ 8 ⌝ }
-    ensures { λ r. ⌜ Does w32 (addKeyOf w32 (now (rkey .entry))) state r ⌝ }
+    ensures { λ r. ⌜ Does w (addKeyOf w (now (rkey .entry))) state r ⌝ }
 {
     [
         state[0] ^ rkey[0],
@@ -138,7 +188,7 @@ pub fn add_round_key(state: [u32; 8], rkey: &[u32]) -> [u32; 8]
 }
 
 // The eight words of a part of a schedule as one value.
-pub fn load(part: &[u32]) -> [u32; 8]
+pub fn load(part: &[Word]) -> [Word; 8]
     requires { ⌜ length (now part) ≡ 8 ⌝ }
     ensures { λ r. ⌜ r ≡ now (part .entry) ⌝ }
 {
@@ -155,7 +205,7 @@ pub fn load(part: &[u32]) -> [u32; 8]
 }
 
 // One value into the eight words of a part of a schedule.
-pub fn store(part: &mut [u32], state: [u32; 8])
+pub fn store(part: &mut [Word], state: [Word; 8])
     requires { ⌜ length (now part) ≡ 8 ⌝ }
     ensures { λ r. ⌜ now (part .exit) ≡ state ⌝ }
 {
@@ -169,8 +219,35 @@ pub fn store(part: &mut [u32], state: [u32; 8])
     part[7] = state[7];
 }
 
+// `inv_shift_rows_1` on eight words of a schedule, in place.
+pub fn inv_shift_rows_1_in(part: &mut [Word])
+    requires { ⌜ length (now part) ≡ 8 ⌝ }
+    ensures { λ r. ⌜ Does w (all (rowsUnshifted 1)) (now (part .entry)) (now (part .exit)) ⌝ }
+{
+    let s = load(part);
+    store(part, inv_shift_rows_1(s));
+}
+
+// `inv_shift_rows_2` on eight words of a schedule, in place.
+pub fn inv_shift_rows_2_in(part: &mut [Word])
+    requires { ⌜ length (now part) ≡ 8 ⌝ }
+    ensures { λ r. ⌜ Does w (all (rowsUnshifted 2)) (now (part .entry)) (now (part .exit)) ⌝ }
+{
+    let s = load(part);
+    store(part, inv_shift_rows_2(s));
+}
+
+// `inv_shift_rows_3` on eight words of a schedule, in place.
+pub fn inv_shift_rows_3_in(part: &mut [Word])
+    requires { ⌜ length (now part) ≡ 8 ⌝ }
+    ensures { λ r. ⌜ Does w (all (rowsUnshifted 3)) (now (part .entry)) (now (part .exit)) ⌝ }
+{
+    let s = load(part);
+    store(part, inv_shift_rows_3(s));
+}
+
 // Copies the eight words at an offset to the eight after them; nothing else changes.
-pub fn memshift32(rkeys: &mut [u32], off: usize)
+pub fn memshift32(rkeys: &mut [Word], off: usize)
     requires { ⌜ off + 16 ≤ length (now rkeys) ⌝ }
     ensures { λ r. ⌜ now (rkeys .exit) ≡ put (now (rkeys .entry)) (off + 8) (wordsAt (now (rkeys .entry)) off) ⌝ }
 {
@@ -179,17 +256,20 @@ pub fn memshift32(rkeys: &mut [u32], off: usize)
 }
 
 // One word of the next round key: `prev` of the key before, `cur` after the S-box pass, rotated by three columns and `rows` rows.
-fn xor_column(prev: u32, cur: u32, rows: u32) -> u32
+fn xor_column(prev: Word, cur: Word, rows: u32) -> Word
     requires { ⌜ rows < 2 ⌝ }
-    ensures { λ r. ⌜ r ≡ columnWord (words w32) w32 rows prev cur ⌝ }
+    ensures { λ r. ⌜ r ≡ columnWord (words w) w rows prev cur ⌝ }
 {
-    let rk = prev ^ (ror(cur, 8 * rows + 6) & 0x03030303);
-    rk ^ ((rk << 2) & 0xfcfcfcfc) ^ ((rk << 4) & 0xf0f0f0f0) ^ ((rk << 6) & 0xc0c0c0c0)
+    let rk = prev ^ (ror(cur, ROW_BITS * rows + THREE_QUARTERS) & UNIFORM_ROW_03);
+    rk
+        ^ ((rk << QUARTER_ROW) & UNIFORM_ROW_FC)
+        ^ ((rk << HALF_ROW) & UNIFORM_ROW_F0)
+        ^ ((rk << THREE_QUARTERS) & UNIFORM_ROW_C0)
 }
 
-fn xor_states(prev: [u32; 8], cur: [u32; 8], rows: u32) -> [u32; 8]
+fn xor_states(prev: [Word; 8], cur: [Word; 8], rows: u32) -> [Word; 8]
     requires { ⌜ rows < 2 ⌝ }
-    ensures { λ r. ⌜ Does w32 (nextKeyOf w32 rows prev) cur r ⌝ }
+    ensures { λ r. ⌜ Does w (nextKeyOf w rows prev) cur r ⌝ }
 {
     [
         xor_column(prev[0], cur[0], rows),
@@ -204,9 +284,9 @@ fn xor_states(prev: [u32; 8], cur: [u32; 8], rows: u32) -> [u32; 8]
 }
 
 // The next round key's columns, in place: the words at `off` have been through the S-box, `idx_xor` words before them stands the key to add.
-pub fn xor_columns(rkeys: &mut [u32], off: usize, idx_xor: usize, rows: u32)
+pub fn xor_columns(rkeys: &mut [Word], off: usize, idx_xor: usize, rows: u32)
     requires { ⌜ (8 ≤ «idx_xor») × («idx_xor» ≤ off) × (off + 8 ≤ length (now rkeys)) × (rows < 2) ⌝ }
-    ensures { λ r. ⌜ Changes w32 (nextKeyOf w32 rows (wordsAt (now (rkeys .entry)) (off - «idx_xor»))) off (now (rkeys .entry)) (now (rkeys .exit)) ⌝ }
+    ensures { λ r. ⌜ Changes w (nextKeyOf w rows (wordsAt (now (rkeys .entry)) (off - «idx_xor»))) off (now (rkeys .entry)) (now (rkeys .exit)) ⌝ }
 {
     let at = off - idx_xor;
     let p = load(&rkeys[at..at + 8]);
@@ -215,16 +295,16 @@ pub fn xor_columns(rkeys: &mut [u32], off: usize, idx_xor: usize, rows: u32)
 }
 
 // A word of the state with a bit of a round constant in row 1, column 3, all slots: xor_columns rotates it to row 0.
-fn add_round_constant_bit(word: u32, constant: u8, bit: u32) -> u32
+fn add_round_constant_bit(word: Word, constant: u8, bit: u32) -> Word
     requires { ⌜ bit < 8 ⌝ }
-    ensures { λ r. ⌜ r ≡ bitXor word (words w32 .bitTimes bit (packRows w32 0 0xc0 0 0) constant) ⌝ }
+    ensures { λ r. ⌜ r ≡ bitXor word (words w .bitTimes bit (packRows w 0 0xc0 0 0) constant) ⌝ }
 {
-    word ^ (((constant >> bit) % 2) as u32 * 0x0000c000)
+    word ^ (((constant >> bit) % 2) as Word * PACK_ROWS_00_C0_00_00)
 }
 
 // A round constant: its set bits choose the words to flip.
-pub fn add_round_constant(state: [u32; 8], constant: u8) -> [u32; 8]
-    ensures { λ r. ⌜ Does w32 (all (addConstant constant)) state r ⌝ }
+pub fn add_round_constant(state: [Word; 8], constant: u8) -> [Word; 8]
+    ensures { λ r. ⌜ Does w (all (addConstant constant)) state r ⌝ }
 {
     [
         add_round_constant_bit(state[0], constant, 0),

@@ -33,17 +33,22 @@ fn put(digits: &[u8], batch: &mut [u8], at: usize)
     hex::read(digits, &mut batch[at..at + 16]);
 }
 
+// A batch of bytes x. A call, so that a goal says its result and not every byte.
+fn batch(x: u8) -> [u8; 64] {
+    [x; 64]
+}
+
 // 1 where the block of field `from`, 1 or 2, comes out as the other one, in a slot of a batch with other bytes elsewhere; else 0.
 fn passes(bits: usize, key: &[u8], line: &[u8], from: usize, slot: usize) -> usize
     requires { ⌜ (bits ≤ 64) × (from < 3) × (slot < 4) ⌝ }
     ensures { λ r. ⌜ r ≤ 1 ⌝ }
 {
     let at = 16 * slot;
-    let mut input = [0xa5u8; 64];
+    let mut input = batch(0xa5);
     put(hex::field(line, from), &mut input, at);
     let mut right = [0u8; 16];
     hex::read(hex::field(line, 3 - from), &mut right);
-    let mut output = [0x5au8; 64];
+    let mut output = batch(0x5a);
     if crypt(bits, key, from == 2, &input, &mut output) != 0 {
         return 0;
     }

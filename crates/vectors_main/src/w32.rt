@@ -1,24 +1,34 @@
 // A batch through the public calls at 32 bits. The number is the first that is not 0.
+use aes::w32 as public;
+
+type Word = u32;
+
+// ---- the same at both widths
+// Room for the longest schedule. A call, so that a goal says its result and not 120 zeros.
+fn blank() -> [Word; 120] {
+    [0; 120]
+}
+
 fn crypt_by(
-    schedule: &mut [u32],
+    schedule: &mut [Word],
     key: &[u8],
     decrypts: bool,
     input: &[u8],
     output: &mut [u8],
 ) -> u32 {
-    let number = aes::w32::expand(key, schedule);
+    let number = public::expand(key, schedule);
     if number != 0 {
         return number;
     }
     if decrypts {
-        aes::w32::decrypt(schedule, input, output)
+        public::decrypt(schedule, input, output)
     } else {
-        aes::w32::encrypt(schedule, input, output)
+        public::encrypt(schedule, input, output)
     }
 }
 
 pub fn crypt(key: &[u8], decrypts: bool, input: &[u8], output: &mut [u8]) -> u32 {
-    let mut schedule = [0u32; 120];
+    let mut schedule = blank();
     let n = super::words_for(key.len());
     crypt_by(&mut schedule[0..n], key, decrypts, input, output)
 }

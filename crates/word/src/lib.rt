@@ -1,4 +1,6 @@
 // word.rs of the Rust: packing blocks into a bitsliced state and back, at each width.
+mod blocks32;
+mod blocks64;
 pub mod w32;
 pub mod w64;
 

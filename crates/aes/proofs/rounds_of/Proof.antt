@@ -1,19 +1,19 @@
--- By the match. Assumes nothing.
+-- By the match, off the table of sizes. Assumes nothing.
 use borrow.Author.Tests.{ne-eqb}
-use Rattle.aes.specs.Outcome.{roundsOf}
+use Rattle.lanes.specs.Sizes.{scheduleSize}
 use Rattle.aes.proofs.rounds_of.Statement.{statement}
 use Rattle.aes.proofs.rounds_of.Tie as tie
 
 returns : tie.Need-returns
-unfolding roundsOf
+unfolding scheduleSize
 returns c = rw (c .match .keys1)
 
 returns-2 : tie.Need-returns-2
-unfolding roundsOf
+unfolding scheduleSize
 returns-2 c = rw (c .match .keys2)
 
 returns-3 : tie.Need-returns-3
-unfolding roundsOf
+unfolding scheduleSize
 returns-3 c = rw (ne-eqb _ 88 (c .match .rest .0 .1), ne-eqb _ 120 (c .match .rest .1))
 
 pub rounds-of-spec : {M : Type 1} → statement M

@@ -1,16 +1,78 @@
--- The expansion leaves the schedule of the key, and the call on it is the door's. Assumes nothing.
+-- The expansion leaves the schedule of the key, and the batch under it is FIPS-197's with the key. Assumes nothing.
 use borrow.Author.Needs.{needs}
-use Rattle.host.proofs.Door.{door-done, encrypts, decrypts}
-use Rattle.lanes.specs.Layout.{w64}
-use Rattle.lanes.specs.Schedule.{encryptedBatch, decryptedBatch}
+use Rattle.fips197.specs.Aes.{cipher, invCipher}
+use Rattle.lanes.proofs.Machine.{byte-fit}
+use Rattle.host.proofs.Door.{scheduled, door-crypts, encrypts, decrypts}
 use Rattle.host.proofs.crypt_with.Statement.{statement}
 use Rattle.host.proofs.crypt_with.Tie as tie
 
+key-schedule-requires : tie.Need-key-schedule-requires
+key-schedule-requires c κs = search needs
+
+encrypt-requires : tie.Need-encrypt-requires
+encrypt-requires c κs =
+    let made = c .before .before .before .before .before in
+    let start = made .before .before .before .before .before .before in
+    record {
+      schedule = scheduled (start .args .key .now) (start .pre .keyed) (start .pre .rounds-are) (made .key-schedule .ensures);
+      input = start .pre .full-input;
+      output = start .pre .full-output;
+    }
+
+same-length : tie.Need-same-length
+same-length c = search needs
+
+same-length-2 : tie.Need-same-length-2
+same-length-2 c = search needs
+
 returns : tie.Need-returns
-returns c = door-done _ _ _ _ _ (c .before .before .before .before .before .before .before .before .before .before .before .before .before .before .pre) (c .before .before .before .before .before .before .before .before .expand .ensures) (encryptedBatch w64) (encrypts _ (c .before .before .before .before .before .if1 .taken)) (c .before .before .encrypt .ensures)
+returns c =
+    let done = c .before .before in
+    let test = done .before .before .before in
+    let made = test .before .before .before in
+    let known = made .before .before .before .before .before in
+    let start = known .before in
+    door-crypts (start .args .key .now) (start .pre .keyed) (byte-fit (start .args .key .now) (known .shared-slice-known .given)) cipher
+    (start .args .input .now) (start .args .direction)
+    (encrypts (start .args .direction) (test .if1 .taken)) (start .pre .rounds-are) (made .key-schedule .ensures) (done .encrypt .ensures)
+
+decrypt-requires : tie.Need-decrypt-requires
+decrypt-requires c κs =
+    let made = c .before .before .before .before .before in
+    let start = made .before .before .before .before .before .before in
+    record {
+      schedule = scheduled (start .args .key .now) (start .pre .keyed) (start .pre .rounds-are) (made .key-schedule .ensures);
+      input = start .pre .full-input;
+      output = start .pre .full-output;
+    }
+
+same-length-3 : tie.Need-same-length-3
+same-length-3 c = search needs
+
+same-length-4 : tie.Need-same-length-4
+same-length-4 c = search needs
 
 returns-2 : tie.Need-returns-2
-returns-2 c = door-done _ _ _ _ _ (c .before .before .before .before .before .before .before .before .before .before .before .before .before .before .pre) (c .before .before .before .before .before .before .before .before .expand .ensures) (decryptedBatch w64) (decrypts _ (c .before .before .before .before .before .if1 .left)) (c .before .before .decrypt .ensures)
+returns-2 c =
+    let done = c .before .before in
+    let test = done .before .before .before in
+    let made = test .before .before .before in
+    let known = made .before .before .before .before .before in
+    let start = known .before in
+    door-crypts (start .args .key .now) (start .pre .keyed) (byte-fit (start .args .key .now) (known .shared-slice-known .given)) invCipher
+    (start .args .input .now) (start .args .direction)
+    (decrypts (start .args .direction) (test .if1 .left)) (start .pre .rounds-are) (made .key-schedule .ensures) (done .decrypt .ensures)
 
 pub crypt-with-spec : {M : Type 1} → statement M
-crypt-with-spec = tie.close (tie.spec (λ c κs. search needs) (λ c κs. search needs) (λ c. search needs) (λ c. search needs) returns (λ c κs. search needs) (λ c. search needs) (λ c. search needs) returns-2)
+crypt-with-spec =
+    tie.close
+    (tie.spec
+    key-schedule-requires
+    encrypt-requires
+    same-length
+    same-length-2
+    returns
+    decrypt-requires
+    same-length-3
+    same-length-4
+    returns-2)

@@ -1,51 +1,134 @@
--- Each refusal by its law; the rest is behind the tests. Assumes nothing.
+-- Each refusal by its law; the rest is behind the tests; what is erased reads as zero. Assumes nothing.
 use borrow.Author.Needs.{needs}
-use Prim.Native.Nat.{_≤_}
 use lib.ListN.{length}
-use mathlib.Core.Path.{_≡_, _∙_}
+use mathlib.Core.Path.{_≡_, sym, _∙_}
 use native.Mathlib.Omega.{arith}
-use Rattle.aes.proofs.Answers.{no-words, some-words, key-size}
-use Rattle.aes.specs.Outcome.{keyWordsOf}
-use Rattle.host.proofs.Door.{door-1, door-3, door-4, door-5, front-length}
+use Rattle.lanes.proofs.Sizes.{key-found}
+use Rattle.aes.proofs.Answers.{no-key, a-key}
+use Rattle.host.proofs.Door.{door-1, door-3, door-4, door-5, door-0, front-length, blank-is-zero}
 use Rattle.host.proofs.locker_aes.Statement.{statement}
 use Rattle.host.proofs.locker_aes.Tie as tie
 
-keyed : (c : tie.Else1) → keyWordsOf (length (c .before .before .before .before .before .args .key .now)) ≡ 0 → ⊥
-keyed c = some-words _ (c .before .schedule-words .ensures) (c .if1 .left)
+key-size-requires : tie.Need-key-size-requires
+key-size-requires c κs = search needs
 
-room : (c : tie.After-blank) → c .before .before .before .before .before .schedule-words .result ≤ length (c .blank .result)
-room c =
-    let l : length (c .blank .result) ≡ 120 = search needs in
-    omega (arith, key-size _ (keyed (c .before .before .before .before)) .room, c .before .before .before .before .before .schedule-words .ensures)
+enum-known-rounds : tie.Need-enum-known-rounds
+enum-known-rounds c = search needs
+
+enum-told : tie.Need-enum-told
+enum-told c = search needs
 
 returns : tie.Need-returns
-returns c = door-1 _ _ _ _ (no-words _ (c .before .schedule-words .ensures) (c .if1 .taken))
+returns c = door-1 _ _ _ _ (no-key _ (sym (c .enum-told .given .1) ∙ c .before .before .key-size .ensures))
 
 returns-2 : tie.Need-returns-2
-returns-2 c = door-3 _ _ _ _ (keyed (c .before)) (c .if2 .taken)
+returns-2 c =
+    let told = c .before .before in
+    let r = a-key _ (sym (told .rounds .given .1) ∙ told .before .before .key-size .ensures) in
+    door-3 _ _ _ _ (r .keyed) (c .if1 .taken)
 
 returns-3 : tie.Need-returns-3
-returns-3 c = door-4 _ _ _ _ (keyed (c .before .before)) (c .before .if2 .left) (c .if3 .taken)
+returns-3 c =
+    let told = c .before .before .before in
+    let r = a-key _ (sym (told .rounds .given .1) ∙ told .before .before .key-size .ensures) in
+    door-4 _ _ _ _ (r .keyed) (c .before .if1 .left) (c .if2 .taken)
 
 returns-4 : tie.Need-returns-4
-returns-4 c = door-5 _ _ _ _ (keyed (c .before .before .before)) (c .before .before .if2 .left) (c .before .if3 .left) (c .if4 .taken)
+returns-4 c =
+    let told = c .before .before .before .before in
+    let r = a-key _ (sym (told .rounds .given .1) ∙ told .before .before .key-size .ensures) in
+    door-5 _ _ _ _ (r .keyed) (c .before .before .if1 .left) (c .before .if2 .left) (c .if3 .taken)
+
+blank-requires : tie.Need-blank-requires
+blank-requires c κs = search needs
+
+sub-crypt-with : tie.Need-sub-crypt-with
+sub-crypt-with c = search needs
+
+part-schedule-start : tie.Need-part-schedule-start
+part-schedule-start c = search needs
 
 part-schedule-end : tie.Need-part-schedule-end
-part-schedule-end c = room c
+part-schedule-end c =
+    let told = c .before .before .before .before .before in
+    let r = a-key _ (sym (told .rounds .given .1) ∙ told .before .before .key-size .ensures) in
+    let l : length (c .blank .result) ≡ 120 = search needs in
+    omega (arith, r .words, key-found _ (r .keyed) .sized .room)
 
 crypt-with-requires : tie.Need-crypt-with-requires
 crypt-with-requires c κs =
     let b = c .before .before in
+    let told = b .before .before .before .before .before in
+    let r = a-key _ (sym (told .rounds .given .1) ∙ told .before .before .key-size .ensures) in
+    let l : length (b .blank .result) ≡ 120 = search needs in
     record {
-      keyed = keyed (b .before .before .before .before);
-      words = front-length (b .blank .result) (b .before .before .before .before .before .schedule-words .result) (room b) ∙ b .before .before .before .before .before .schedule-words .ensures;
-      full-input = b .before .before .before .if2 .left;
-      full-output = b .before .before .if3 .left;
-      directed = b .before .if4 .left;
+      keyed = r .keyed;
+      rounds-are = r .rounds;
+      words = front-length (b .blank .result) _ (omega (arith, r .words, key-found _ (r .keyed) .sized .room)) ∙ r .words;
+      full-input = b .before .before .before .if1 .left;
+      full-output = b .before .before .if2 .left;
     }
 
+blank-requires-2 : tie.Need-blank-requires-2
+blank-requires-2 c κs = search needs
+
+mul-if4 : tie.Need-mul-if4
+mul-if4 c = search needs
+
+array-read-if4 : tie.Need-array-read-if4
+array-read-if4 c = search needs
+
+same-length : tie.Need-same-length
+same-length c = search needs
+
 returns-5 : tie.Need-returns-5
-returns-5 c = c .before .before .before .crypt-with .ensures
+returns-5 c =
+    let b = c .before .before .before .before .before .before .before .before in
+    absurd (c .if4 .taken (blank-is-zero _ _ (c .before .blank2 .ensures) (omega (arith, b .before .if3 .left))))
+
+burn-requires : tie.Need-burn-requires
+burn-requires c κs = search needs
+
+same-length-2 : tie.Need-same-length-2
+same-length-2 c = search needs
+
+returns-6 : tie.Need-returns-6
+returns-6 c = absurd (c .if5 .taken (c .before .burn .ensures))
+
+same-length-3 : tie.Need-same-length-3
+same-length-3 c = search needs
+
+returns-7 : tie.Need-returns-7
+returns-7 c =
+    let done = c .before .before .before .before .before .before .before in
+    let e = done .before .before .before .before in
+    let told = e .before .before .before .before in
+    let r = a-key _ (sym (told .rounds .given .1) ∙ told .before .before .key-size .ensures) in
+    door-0 _ _ _ _ (r .keyed) (e .before .before .if1 .left) (e .before .if2 .left) (e .if3 .left) (done .crypt-with .ensures)
 
 pub locker-aes-spec : {M : Type 1} → statement M
-locker-aes-spec = tie.close (tie.spec (λ c κs. search needs) returns returns-2 returns-3 returns-4 (λ c κs. search needs) (λ c. search needs) (λ c. search needs) part-schedule-end crypt-with-requires (λ c. search needs) returns-5)
+locker-aes-spec =
+    tie.close
+    (tie.spec
+    key-size-requires
+    enum-known-rounds
+    enum-told
+    returns
+    returns-2
+    returns-3
+    returns-4
+    blank-requires
+    sub-crypt-with
+    part-schedule-start
+    part-schedule-end
+    crypt-with-requires
+    blank-requires-2
+    mul-if4
+    array-read-if4
+    same-length
+    returns-5
+    burn-requires
+    same-length-2
+    returns-6
+    same-length-3
+    returns-7)

@@ -16,11 +16,29 @@ abbrev μ-loop : tie.MeasureT-loop
 
 loop-again : tie.Need-loop-again Inv-loop μ-loop
 loop-again c =
-    let l = c .before .loop .inv in
-    (search needs, simp length-set (l .1), l .2, copied-more (c .before .before .args .t1) (c .before .loop .part) (c .before .loop .i) (omega arith) (omega arith) (l .3))
+    let part = c .before .loop .part in
+    let from = c .before .before .args .t1 in
+    let inv = c .before .loop .inv in
+    let i = c .before .loop .i in
+    (search needs, simp length-set (inv .1), inv .2, copied-more from part i (omega arith) (omega arith) (inv .3))
 
 returns : tie.Need-returns Inv-loop μ-loop
-returns c = copied-all (c .before .before .args .t1) (c .before .loop .part) (c .before .loop .i) (omega arith) (omega arith) (c .before .loop .inv .3)
+returns c =
+    let part = c .before .loop .part in
+    let from = c .before .before .args .t1 in
+    copied-all from part (c .before .loop .i) (omega arith) (omega arith) (c .before .loop .inv .3)
 
 pub copy16-spec : {M : Type 1} → statement M
-copy16-spec = tie.close (tie.spec Inv-loop μ-loop (λ c. search needs) (λ c. search needs) (λ c. search needs) (λ c. search needs) (λ c. search needs) loop-again (λ c. search needs) returns)
+copy16-spec =
+    tie.close
+    (tie.spec
+    Inv-loop
+    μ-loop
+    (λ c. search needs)
+    (λ c. search needs)
+    (λ c. search needs)
+    (λ c. search needs)
+    (λ c. search needs)
+    loop-again
+    (λ c. search needs)
+    returns)

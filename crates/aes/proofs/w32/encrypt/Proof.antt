@@ -1,29 +1,39 @@
 -- Each answer by its law. Assumes nothing.
-use borrow.Author.Needs.{needs}
-use Rattle.aes.proofs.Answers.{crypt-2, crypt-3, crypt-4, crypt-0, schedule-fits}
-use Rattle.lanes.specs.Layout.{w32}
-use Rattle.lanes.specs.Schedule.{encryptedBatch}
 use Rattle.aes.proofs.w32.encrypt.Statement.{statement}
 use Rattle.aes.proofs.w32.encrypt.Tie as tie
+use Rattle.lanes.specs.Layout.{w32 as w}
+-- ---- the same at both widths
+use borrow.Author.Needs.{needs}
+use Rattle.fips197.specs.Aes.{cipher}
+use Rattle.aes.proofs.Answers.{scheduled, crypt-2, crypt-3, crypt-4, crypt-0}
+
+rounds-of-requires : tie.Need-rounds-of-requires
+rounds-of-requires c κs = search needs
 
 returns : tie.Need-returns
-returns c = crypt-2 (encryptedBatch w32) 32 _ _ _ (c .before .rounds-of .ensures) (c .if1 .taken)
+returns c = crypt-2 _ (c .before .rounds-of .ensures) cipher w _ _ (c .if1 .taken)
 
 returns-2 : tie.Need-returns-2
-returns-2 c = crypt-3 (encryptedBatch w32) 32 _ _ _ (c .before .before .rounds-of .ensures) (c .before .if1 .left) (c .if2 .taken)
+returns-2 c = crypt-3 _ (c .before .before .rounds-of .ensures) cipher w _ _ (c .before .if1 .left) (c .if2 .taken)
 
 returns-3 : tie.Need-returns-3
-returns-3 c = crypt-4 (encryptedBatch w32) 32 _ _ _ (c .before .before .before .rounds-of .ensures) (c .before .before .if1 .left) (c .before .if2 .left) (c .if3 .taken)
+returns-3 c =
+    let d = c .before .before in
+    crypt-4 _ (d .before .rounds-of .ensures) cipher w _ _ (d .if1 .left) (c .before .if2 .left) (c .if3 .taken)
 
 encrypt-requires : tie.Need-encrypt-requires
 encrypt-requires c κs =
-    let h = schedule-fits _ (c .before .before .before .before .rounds-of .ensures) (c .before .before .before .if1 .left) in
-    (h .0, h .1, c .before .before .if2 .left, c .before .if3 .left)
+    let d = c .before .before .before in
+    record { schedule = scheduled _ (d .before .rounds-of .ensures) (d .if1 .left); input = c .before .before .if2 .left; output = c .before .if3 .left }
+
+same-length : tie.Need-same-length
+same-length c = search needs
 
 returns-4 : tie.Need-returns-4
 returns-4 c =
-    let d = c .before .before .before .before in
-    crypt-0 (encryptedBatch w32) 32 _ _ _ (d .before .before .before .rounds-of .ensures) (d .before .before .if1 .left) (d .before .if2 .left) (d .if3 .left) (c .before .before .encrypt .ensures)
+    let e = c .before .before .before .before in
+    let d = e .before .before in
+    crypt-0 _ (d .before .rounds-of .ensures) cipher w _ _ (d .if1 .left) (e .before .if2 .left) (e .if3 .left) (c .before .before .encrypt .ensures)
 
 pub encrypt-spec : {M : Type 1} → statement M
-encrypt-spec = tie.close (tie.spec (λ c κs. search needs) returns returns-2 returns-3 encrypt-requires (λ c. search needs) returns-4)
+encrypt-spec = tie.close (tie.spec rounds-of-requires returns returns-2 returns-3 encrypt-requires same-length returns-4)

@@ -1,28 +1,56 @@
 -- Each answer by its law. Assumes nothing.
-use borrow.Author.Needs.{needs}
-use mathlib.Core.Path.{_∙_}
-use Rattle.aes.proofs.Answers.{expand-1, expand-2, expand-128, expand-256, key-128, key-256}
-use Rattle.lanes.specs.Layout.{w32}
 use Rattle.aes.proofs.w32.expand.Statement.{statement}
 use Rattle.aes.proofs.w32.expand.Tie as tie
+use Rattle.lanes.specs.Layout.{w32 as w}
+-- ---- the same at both widths
+use borrow.Author.Needs.{needs}
+use mathlib.Core.Path.{sym, _∙_}
+use Rattle.aes.proofs.Answers.{no-key, a-key, expand-1, expand-2, expand-0}
+
+key-size-requires : tie.Need-key-size-requires
+key-size-requires c κs = search needs
+
+enum-known-words : tie.Need-enum-known-words
+enum-known-words c = search needs
+
+enum-told : tie.Need-enum-told
+enum-told c = search needs
 
 returns : tie.Need-returns
-returns c = expand-1 w32 _ _ (c .before .schedule-words .ensures) (c .if1 .taken)
+returns c = expand-1 w _ _ (no-key _ (sym (c .enum-told .given .1) ∙ c .before .before .key-size .ensures))
 
 returns-2 : tie.Need-returns-2
-returns-2 c = expand-2 w32 _ _ (c .before .before .schedule-words .ensures) (c .before .if1 .left) (c .if2 .taken)
+returns-2 c =
+    let d = c .before .before in
+    let r = a-key _ (sym (d .words .given .1) ∙ d .before .before .key-size .ensures) in
+    expand-2 w _ _ (r .keyed) (λ e. c .if1 .taken (e ∙ sym (r .words)))
 
-key-schedule-128-requires : tie.Need-key-schedule-128-requires
-key-schedule-128-requires c κs = (key-128 _ (c .before .before .before .before .schedule-words .ensures) (c .before .before .before .if1 .left) (c .before .if3 .taken) .0, c .before .before .if2 .left ∙ c .before .if3 .taken)
+key-schedule-requires : tie.Need-key-schedule-requires
+key-schedule-requires c κs =
+    let d = c .before in
+    let e = d .before .before in
+    let r = a-key _ (sym (e .words .given .1) ∙ e .before .before .key-size .ensures) in
+    record { keyed = r .keyed; words = d .if1 .left ∙ r .words }
+
+same-length : tie.Need-same-length
+same-length c = search needs
 
 returns-3 : tie.Need-returns-3
-returns-3 c = let d = c .before .before .before .before in expand-128 w32 _ _ (d .before .before .before .schedule-words .ensures) (d .before .before .if1 .left) (d .before .if2 .left) (d .if3 .taken) (c .before .before .key-schedule-128 .ensures)
-
-key-schedule-256-requires : tie.Need-key-schedule-256-requires
-key-schedule-256-requires c κs = let k = key-256 _ (c .before .before .before .before .schedule-words .ensures) (c .before .before .before .if1 .left) (c .before .if3 .left) in (k .0, c .before .before .if2 .left ∙ k .2)
-
-returns-4 : tie.Need-returns-4
-returns-4 c = let d = c .before .before .before .before in expand-256 w32 _ _ (d .before .before .before .schedule-words .ensures) (d .before .before .if1 .left) (d .before .if2 .left) (d .if3 .left) (c .before .before .key-schedule-256 .ensures)
+returns-3 c =
+    let d = c .before .before .before .before in
+    let e = d .before .before in
+    let r = a-key _ (sym (e .words .given .1) ∙ e .before .before .key-size .ensures) in
+    expand-0 w _ _ (r .keyed) (d .if1 .left ∙ r .words) (c .before .before .key-schedule .ensures)
 
 pub expand-spec : {M : Type 1} → statement M
-expand-spec = tie.close (tie.spec (λ c κs. search needs) returns returns-2 key-schedule-128-requires (λ c. search needs) returns-3 key-schedule-256-requires (λ c. search needs) returns-4)
+expand-spec =
+    tie.close
+    (tie.spec
+    key-size-requires
+    enum-known-words
+    enum-told
+    returns
+    returns-2
+    key-schedule-requires
+    same-length
+    returns-3)

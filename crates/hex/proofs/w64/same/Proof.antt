@@ -1,10 +1,11 @@
 -- Safe, and ends. Assumes nothing.
+use Rattle.hex.proofs.w64.same.Statement.{statement}
+use Rattle.hex.proofs.w64.same.Tie as tie
+-- ---- the same at both widths
 use borrow.Author.Needs.{needs}
 use Prim.Native.Nat.{_-_}
 use lib.ListN.{length}
 use mathlib.Core.Path.{_≡_}
-use Rattle.hex.proofs.w64.same.Statement.{statement}
-use Rattle.hex.proofs.w64.same.Tie as tie
 
 abbrev Inv-loop : tie.InvT-loop
 Inv-loop a b i₀ i-end i = i-end ≡ length a

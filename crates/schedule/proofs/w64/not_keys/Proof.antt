@@ -1,37 +1,37 @@
 -- The round keys passed so far are adjusted, the others as they were. Assumes nothing.
-use borrow.Author.Needs.{needs}
-use Prim.Native.Nat.{_+_, _-_, _*_, _≤_}
-use lib.ListN.{length}
-use mathlib.Core.Path.{_≡_, _∙_}
-use native.Mathlib.Omega.{arith}
-use Rattle.lanes.specs.Layout.{w64}
-use Rattle.lanes.specs.Leaves.{add63}
-use Rattle.schedule.proofs.Adjusting.{adjusted-none, adjusted-lent}
-use Rattle.schedule.specs.Steps.{Adjusted}
+use Rattle.lanes.specs.Layout.{w64 as w}
 use Rattle.schedule.proofs.w64.not_keys.Statement.{statement}
 use Rattle.schedule.proofs.w64.not_keys.Tie as tie
+-- ---- the same at both widths
+use borrow.Author.Needs.{needs}
+use Prim.Native.Nat.{_+_, _-_, _*_}
+use mathlib.Core.Path.{_≡_, _∙_}
+use native.Mathlib.Omega.{arith}
+use Rattle.lanes.specs.Schedule.{add63}
+use Rattle.schedule.proofs.Adjusting.{AdjustedSo, adjusted-none, adjusted-lent}
 
 abbrev Inv-loop : tie.InvT-loop
-Inv-loop rkeys₀ end i₀ rkeys i = (1 ≤ i) × (i ≤ end) × (length rkeys ≡ length rkeys₀) × Adjusted w64 (λ r. add63) i rkeys₀ rkeys
+Inv-loop rkeys₀ end r₀ rkeys r = AdjustedSo w (λ r. add63) end r rkeys₀ rkeys
 
 abbrev μ-loop : tie.MeasureT-loop
-μ-loop rkeys₀ end i₀ rkeys i = end - i
+μ-loop rkeys₀ end r₀ rkeys r = end - r
 
 loop-holds : tie.Need-loop-holds Inv-loop μ-loop
-loop-holds c = (search needs, search needs, search needs, adjusted-none w64 _ _)
+loop-holds c = adjusted-none w _ (search needs)
 
 loop-again : tie.Need-loop-again Inv-loop μ-loop
 loop-again c =
-    let q = c .before .before .before .before .before .loop in
-    let k : 8 * q .i + 8 - 8 * q .i ≡ 8 = omega arith in
-    let t = adjusted-lent w64 _ (q .i) _ k (q .inv .0) (search needs) (q .inv .2) (c .before .before .sub-bytes-nots-in .kept .0 ∙ search needs) (q .inv .3) (c .before .before .sub-bytes-nots-in .ensures) in
-    (search needs, search needs, t .0, t .1)
+    let call = c .before .before in
+    let at = call .before .before .before in
+    let r = at .loop .r in
+    let k : 8 * r + 8 - 8 * r ≡ 8 = omega arith in
+    adjusted-lent w _ r _ k (search needs) (search needs) (call .sub-bytes-nots-in .kept .0 ∙ search needs) (call .sub-bytes-nots-in .ensures) (at .loop .inv)
 
 returns : tie.Need-returns Inv-loop μ-loop
 returns c =
     let q = c .before .loop in
-    let e : q .i ≡ c .before .before .before .args .end = omega arith in
-    rw e at (q .inv .3)
+    let e : q .r ≡ c .before .before .before .args .end = omega arith in
+    rw e at (q .inv .done)
 
 pub not-keys-spec : {M : Type 1} → statement M
 not-keys-spec =
@@ -40,16 +40,16 @@ not-keys-spec =
     Inv-loop
     μ-loop
     loop-holds
-    (λ c. search needs)
-    (λ c. search needs)
-    (λ c. search needs)
-    (λ c. search needs)
-    (λ c. search needs)
-    (λ c. search needs)
-    (λ c. search needs)
-    (λ c κs. search needs)
-    (λ c. search needs)
-    (λ c. search needs)
+    (λ c. search needs)  -- mul-sub-bytes-nots-in
+    (λ c. search needs)  -- mul-sub-bytes-nots-in-2
+    (λ c. search needs)  -- add-sub-bytes-nots-in
+    (λ c. search needs)  -- mul-sub-bytes-nots-in-3
+    (λ c. search needs)  -- sub-sub-bytes-nots-in
+    (λ c. search needs)  -- part-sub-bytes-nots-in-start
+    (λ c. search needs)  -- part-sub-bytes-nots-in-end
+    (λ c κs. search needs)  -- sub-bytes-nots-in-requires
+    (λ c. search needs)  -- add-r
+    (λ c. search needs)  -- loop-less
     loop-again
-    (λ c. search needs)
+    (λ c. search needs)  -- same-length
     returns)

@@ -1,23 +1,21 @@
--- The parts are the slots, by the law of unpacking. Assumes nothing.
-use borrow.Author.Needs.{needs}
-use lib.ListN.{getD}
-use mathlib.Core.Path.{refl, _∙_}
-use Rattle.lanes.proofs.Machine.{array-fit}
-use Rattle.lanes.proofs.Packing.{unpacks, store-length, two-parts}
-use Rattle.lanes.specs.Layout.{w32}
-use Rattle.lanes.specs.Programs.{words, storeProgram}
+-- By the law of unpacking. Assumes nothing.
+use Rattle.lanes.specs.Layout.{w32 as w}
 use Rattle.word.proofs.w32.inv_bitslice.Statement.{statement}
 use Rattle.word.proofs.w32.inv_bitslice.Tie as tie
+-- ---- the same at both widths
+use borrow.Author.Needs.{needs}
+use mathlib.Core.Path.{_∙_}
+use Rattle.lanes.proofs.Machine.{array-fit}
+use Rattle.lanes.proofs.Packing.{unpacks}
 
 returns : tie.Need-returns
 returns c =
-    let start = c .before .before .before .before .before .before .before .before .before .before .before .before in
-    let t = c .before .before .before .before .before .before .before .before .before .before .bitslice-swaps in
-    two-parts (storeProgram (words w32) w32 (λ p. getD (t .result) p 0)) (store-length w32 (λ p. getD (t .result) p 0)) (start .args .output .now) (start .pre)
-    (c .before .before .before .before .before .before .before .copy16 .ensures ∙ c .before .before .before .before .before .before .before .before .before .block-bytes .ensures)
-    (c .before .before .copy162 .ensures ∙ c .before .before .before .before .block-bytes2 .ensures)
-    _ refl
-    ∙ unpacks w32 (array-fit w32 (start .args .state) _ (start .good .0 .1 .1)) (t .ensures)
+    let start = c .before .before .before .before .before .before in
+    let fit = array-fit w (start .args .state) _ (start .good .0 .1 .1) in
+    c .before .before .store-blocks .ensures ∙ unpacks w fit (c .before .before .before .before .bitslice-swaps .ensures)
 
 pub inv-bitslice-spec : {M : Type 1} → statement M
-inv-bitslice-spec = tie.close (tie.spec (λ c κs. search needs) (λ c. search needs) (λ c. search needs) (λ c. search needs) (λ c. search needs) (λ c κs. search needs) (λ c. search needs) (λ c. search needs) (λ c. search needs) (λ c κs. search needs) (λ c. search needs) (λ c. search needs) (λ c. search needs) (λ c. search needs) (λ c κs. search needs) (λ c. search needs) (λ c. search needs) (λ c. search needs) (λ c κs. search needs) (λ c. search needs) returns)
+inv-bitslice-spec =
+    tie.close
+    (tie.spec
+    (search needs) (search needs) (search needs) returns)

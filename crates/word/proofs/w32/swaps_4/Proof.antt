@@ -1,8 +1,9 @@
 -- Each pair of words is swapped as the program says. Assumes nothing.
-use borrow.Author.Needs.{needs}
-use Rattle.lanes.proofs.Parts.{_∷≡_, done}
 use Rattle.word.proofs.w32.swaps_4.Statement.{statement}
 use Rattle.word.proofs.w32.swaps_4.Tie as tie
+-- ---- the same at both widths
+use borrow.Author.Needs.{needs}
+use Rattle.lanes.proofs.Parts.{_∷≡_, done}
 
 returns : tie.Need-returns
 returns c =
@@ -16,4 +17,4 @@ returns c =
     c .delta-swap-24 .ensures .0 ∷≡ done
 
 pub swaps-4-spec : {M : Type 1} → statement M
-swaps-4-spec = tie.close (tie.spec (λ c. search needs) (λ c. search needs) (λ c κs. search needs) (λ c. search needs) (λ c. search needs) (λ c κs. search needs) (λ c. search needs) (λ c. search needs) (λ c κs. search needs) (λ c. search needs) (λ c. search needs) (λ c κs. search needs) returns)
+swaps-4-spec = tie.close (search (tie.spec, returns, needs))

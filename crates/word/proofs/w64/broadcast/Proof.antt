@@ -1,24 +1,20 @@
 -- By the law of packing one block into every slot. Assumes nothing.
+use Rattle.lanes.specs.Layout.{w64 as w}
+use Rattle.word.proofs.w64.broadcast.Statement.{statement}
+use Rattle.word.proofs.w64.broadcast.Tie as tie
+-- ---- the same at both widths
 use borrow.Author.Needs.{needs}
 use Rattle.lanes.proofs.Machine.{byte-fit}
 use Rattle.lanes.proofs.Packing.{broadcasts}
-use Rattle.lanes.proofs.Parts.{_∷≡_, done}
-use Rattle.lanes.specs.Layout.{w64}
-use Rattle.word.proofs.w64.broadcast.Statement.{statement}
-use Rattle.word.proofs.w64.broadcast.Tie as tie
 
 returns : tie.Need-returns
 returns c =
-    broadcasts w64 (byte-fit (c .before .before .before .before .args .block .now) (c .before .before .before .shared-slice-known .given)) (c .before .before .before .before .pre)
-    (c .before .before .read-reordered .ensures ∷≡
-    c .before .before .read-reordered .ensures ∷≡
-    c .before .before .read-reordered .ensures ∷≡
-    c .before .before .read-reordered .ensures ∷≡
-    c .before .read-reordered2 .ensures ∷≡
-    c .before .read-reordered2 .ensures ∷≡
-    c .before .read-reordered2 .ensures ∷≡
-    c .before .read-reordered2 .ensures ∷≡ done)
-    (c .bitslice-swaps .ensures)
+    let start = c .before .before .before in
+    let fit = byte-fit (start .args .block .now) (c .before .before .shared-slice-known .given) in
+    broadcasts w fit (start .pre) (c .before .load-repeated .ensures) (c .bitslice-swaps .ensures)
 
 pub broadcast-spec : {M : Type 1} → statement M
-broadcast-spec = tie.close (tie.spec (λ c κs. search needs) (λ c κs. search needs) (λ c κs. search needs) returns)
+broadcast-spec =
+    tie.close
+    (tie.spec
+    (search needs) (search needs) returns)

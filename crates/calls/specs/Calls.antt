@@ -1,0 +1,79 @@
+-- WHAT EACH PUBLIC CALL PROMISES, from its arguments alone: docs/SCOPE.md's table, one link for each refusal, in its order.
+use mathlib.Core.Bool.{not, _||_, cond}
+use mathlib.Core.List.{List}
+use Prim.Native.Nat.{ℕ, _*_}
+use lib.Dec.{eqb}
+use lib.ListN.{length, take, replicate}
+use Rattle.fips197.specs.Aes.{keyExpansion, cipher, invCipher}
+use Rattle.lanes.specs.Layout.{Width, w64, slots}
+use Rattle.lanes.specs.Sizes.{keySize, scheduleSize}
+use Rattle.lanes.specs.Schedule.{reading, scheduleOf, eachBlock, cryptedBatch}
+use Rattle.outcome.specs.Outcome.{Outcome, answers, refuse}
+
+-- ---- what a key and a schedule are, by their lengths
+
+-- the words of a key, FIPS-197's Nk; 0 where it is no key
+unfoldable pub keyWordsOf : List ℕ → ℕ
+keyWordsOf key = keySize (length key) .nk
+
+-- the words of its schedule
+unfoldable pub scheduleWords : List ℕ → ℕ
+scheduleWords key = keySize (length key) .words
+
+-- the rounds of a schedule; 0 where it is no schedule
+unfoldable pub roundsOf : List ℕ → ℕ
+roundsOf schedule = scheduleSize (length schedule) .rounds
+
+-- the words of a schedule that hold its round keys: all of them
+unfoldable pub keysOf : List ℕ → List ℕ
+keysOf schedule = schedule
+
+-- the round keys that it has for slot b: ANY words can be read so, and slots may differ
+abbrev pub keysIn : Width → List ℕ → ℕ → List (List ℕ)
+keysIn w schedule b = reading w (roundsOf schedule) (keysOf schedule) b
+
+-- ---- the calls
+
+-- expand: 1 for the key's length, 2 for a schedule that is not as long as this key's
+unfoldable pub expandOutcome : Width → List ℕ → List ℕ → Outcome (List ℕ)
+expandOutcome w key schedule =
+    refuse (eqb (keyWordsOf key) 0) 1 schedule
+    (refuse (not (eqb (length schedule) (scheduleWords key))) 2 schedule
+    (answers 0 (scheduleOf w (keyWordsOf key) key)))
+
+-- a call that takes one full batch through Cipher or InvCipher: 2 for the schedule's length, 3 for the input's, 4 for the output's
+unfoldable pub cryptOutcome : (List (List ℕ) → List ℕ → List ℕ) → Width → List ℕ → List ℕ → List ℕ → Outcome (List ℕ)
+cryptOutcome c w schedule input output =
+    refuse (eqb (roundsOf schedule) 0) 2 output
+    (refuse (not (eqb (length input) (16 * slots w))) 3 output
+    (refuse (not (eqb (length output) (16 * slots w))) 4 output
+    (answers 0 (cryptedBatch c w (roundsOf schedule) (keysOf schedule) input))))
+
+-- encrypt and decrypt: each slot by its own round keys
+abbrev pub encryptOutcome : Width → List ℕ → List ℕ → List ℕ → Outcome (List ℕ)
+encryptOutcome = cryptOutcome cipher
+
+abbrev pub decryptOutcome : Width → List ℕ → List ℕ → List ℕ → Outcome (List ℕ)
+decryptOutcome = cryptOutcome invCipher
+
+-- the key check value: the first three bytes of the encryption, in slot 0, of sixteen zero bytes; 2 for the schedule's length, 4 for the output's
+unfoldable pub checkValue : Width → List ℕ → List ℕ
+checkValue w schedule = take 3 (cipher (keysIn w schedule 0) (replicate 16 0))
+
+unfoldable pub checkOutcome : Width → List ℕ → List ℕ → Outcome (List ℕ)
+checkOutcome w schedule output =
+    refuse (eqb (roundsOf schedule) 0) 2 output
+    (refuse (not (eqb (length output) 3)) 4 output
+    (answers 0 (checkValue w schedule)))
+
+-- the host door: FIPS-197 with the key, block by block, as 64-bit words take them; direction 0 encrypts and 1 decrypts
+abbrev pub directed : ℕ → List (List ℕ) → List ℕ → List ℕ
+directed direction = cond (eqb direction 0) cipher invCipher
+
+unfoldable pub doorOutcome : ℕ → List ℕ → List ℕ → List ℕ → Outcome (List ℕ)
+doorOutcome direction key input output =
+    refuse (eqb (keyWordsOf key) 0) 1 output
+    (refuse (not (eqb (length input) (16 * slots w64))) 3 output
+    (refuse (not (eqb (length output) (16 * slots w64))) 4 output
+    (refuse (not (eqb direction 0 || eqb direction 1)) 5 output
+    (answers 0 (eachBlock w64 (λ slot. directed direction (keyExpansion (keyWordsOf key) key)) (slots w64) input)))))

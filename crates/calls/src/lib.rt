@@ -1,0 +1,1 @@
+// What each public call promises, no code: see specs/Calls.antt.

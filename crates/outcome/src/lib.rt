@@ -1,0 +1,1 @@
+// What a call answers and leaves, no code: see specs/Outcome.antt.

@@ -1,0 +1,148 @@
+-- From the contracts of the exported calls, `answers r x ≡ its outcome`, by the theorems of the calls: nothing else of crate host is known here.
+-- Once over the width. Assumes nothing.
+use mathlib.Core.Path.{_≡_, _∙_}
+use mathlib.Core.List.{List}
+use Prim.Native.Nat.{ℕ, _*_, _≤_}
+use native.Mathlib.Omega.{arith}
+use lib.Dec.{lit≤}
+use lib.ListN.{length, take, replicate, length-replicate}
+use lib.Seq.{take-take}
+use Rattle.fips197.specs.Bytes.{Fit}
+use Rattle.lanes.specs.Layout.{Width, w64, bits, slots}
+use Rattle.outcome.specs.Outcome.{answers}
+use Rattle.calls.specs.Calls.{keyWordsOf, scheduleWords, roundsOf, expandOutcome, encryptOutcome, decryptOutcome, checkOutcome, doorOutcome}
+use Rattle.theorems.proofs.Call.{answers-0, answers-0-only, refusal-changes-nothing}
+use Rattle.theorems.proofs.Calls.{expandCall, encryptCall, decryptCall, checkCall, doorCall}
+use Rattle.theorems.proofs.Theorems.{Expands, Encrypts, Decrypts, Checks, Doors, door-0-batch, door-1-undoes-0}
+use Rattle.theorems.proofs.Theorems.{expand-schedule, encrypt-batch, decrypt-undoes-encrypt, check-is-slot-0}
+use Rattle.uses.specs.Promises.{Batches, Back, DoorBack, ScheduleBack, Agrees, Refused}
+
+-- ---- the door
+module _ (key i s o : List ℕ) (k : Fit 8 key) (b : Fit 8 i) (e : Fit 8 s) (f : Fit 8 o) where
+  sealing : {r : ℕ} {x : List ℕ} → answers r x ≡ doorOutcome 0 key i s → (keyWordsOf key ≡ 0 → ⊥) → Batches w64 i s o → Doors 0 key i x
+  sealing {r} a p q = record {
+    buffer = s;
+    can = record {
+      fits = record { key-bytes = k; input-bytes = b; buffer-bytes = e };
+      good = record { keyed = p; full-input = q .input; full-output = q .sealed; direction = lit≤ tt };
+    };
+    number = r;
+    answer = a;
+  }
+
+  pub door-stops : {r : ℕ} {x : List ℕ} → answers r x ≡ doorOutcome 0 key i s → (r ≡ 0 → ⊥) → DoorBack key i s o r o
+  unfolding sealing
+  door-stops a h = record { back = λ p q. absurd (h (answers-0 (doorCall 0) (sealing a p q))) }
+
+  pub door-back : {r₀ r : ℕ} {x y : List ℕ} → answers r₀ x ≡ doorOutcome 0 key i s → answers r y ≡ doorOutcome 1 key x o → DoorBack key i s o r y
+  door-back {r₀} {r} {x} {y} a c = record { back = back }
+    where
+      back : (keyWordsOf key ≡ 0 → ⊥) → Batches w64 i s o → Back r i y
+      back p q =
+          let m = sealing a p q in
+          let d = door-0-batch m in
+          let n : Doors 1 key x y = record {
+            buffer = o;
+            can = record {
+              fits = record { key-bytes = k; input-bytes = d .bytes; buffer-bytes = f };
+              good = record { keyed = p; full-input = d .long; full-output = q .opened; direction = lit≤ tt };
+            };
+            number = r;
+            answer = c;
+          } in
+          record { answered = answers-0 (doorCall 1) n; same = door-1-undoes-0 m n }
+
+-- direction 2
+pub door-refuses : (key i o : List ℕ) {r : ℕ} {x : List ℕ} → answers r x ≡ doorOutcome 2 key i o → Refused o r x
+door-refuses key i o {r} a =
+    let none : r ≡ 0 → ⊥ = λ z. let le : 2 ≤ 1 = answers-0-only (doorCall 2) (record { key = key; input = i }) o a z .direction in omega arith in
+    record { refused = none; kept = refusal-changes-nothing (doorCall 2) (record { key = key; input = i }) o a none }
+
+-- ---- by a schedule, at each width
+-- the key, the room for its schedule, and full batches
+record Good (w : Width) (key l i s o : List ℕ) : Type 0 where
+  keyed : keyWordsOf key ≡ 0 → ⊥
+  room : length l ≡ scheduleWords key
+  full : Batches w i s o
+
+module _ (w : Width) (key l i s o : List ℕ) (k : Fit 8 key) (g : Fit (bits w) l) (b : Fit 8 i) (e : Fit 8 s) (f : Fit 8 o) where
+  expanding : {r : ℕ} {x : List ℕ} → answers r x ≡ expandOutcome w key l → Good w key l i s o → Expands w key x
+  expanding {r} a h = record {
+    buffer = l;
+    can = record { fits = record { key-bytes = k; buffer-words = g }; good = record { keyed = h .keyed; room = h .room } };
+    number = r;
+    answer = a;
+  }
+
+  encrypting : {r₀ r : ℕ} {x y : List ℕ} → answers r₀ x ≡ expandOutcome w key l → answers r y ≡ encryptOutcome w x i s → Good w key l i s o → Encrypts w x i y
+  encrypting {r₀} {r} a c h =
+      let d = expand-schedule (expanding a h) in
+      record {
+        buffer = s;
+        can = record {
+          fits = record { schedule-words = d .words; input-bytes = b; buffer-bytes = e };
+          good = record { scheduled = d .right-length; full-input = h .full .input; full-output = h .full .sealed };
+        };
+        number = r;
+        answer = c;
+      }
+
+  pub expand-stops : {r : ℕ} {x : List ℕ} → answers r x ≡ expandOutcome w key l → (r ≡ 0 → ⊥) → ScheduleBack w key l i s o r o
+  unfolding expanding
+  expand-stops a z = record { back = λ p q t. absurd (z (answers-0 (expandCall w) (expanding a (record { keyed = p; room = q; full = t })))) }
+
+  pub encrypt-stops : {r₀ r : ℕ} {x y : List ℕ} → answers r₀ x ≡ expandOutcome w key l → answers r y ≡ encryptOutcome w x i s → (r ≡ 0 → ⊥)
+      → ScheduleBack w key l i s o r o
+  unfolding encrypting
+  encrypt-stops a c z = record { back = λ p q t. absurd (z (answers-0 (encryptCall w) (encrypting a c (record { keyed = p; room = q; full = t })))) }
+
+  pub schedule-back : {r₀ r₁ r : ℕ} {x y v : List ℕ} → answers r₀ x ≡ expandOutcome w key l → answers r₁ y ≡ encryptOutcome w x i s
+      → answers r v ≡ decryptOutcome w x y o → ScheduleBack w key l i s o r v
+  schedule-back {r = r} {x = x} {y = y} {v = v} a c u = record { back = λ p q t. back (record { keyed = p; room = q; full = t }) }
+    where
+      back : Good w key l i s o → Back r i v
+      back h =
+          let d = expand-schedule (expanding a h) in
+          let m = encrypting a c h in
+          let t = encrypt-batch m in
+          let n : Decrypts w x y v = record {
+            buffer = o;
+            can = record {
+              fits = record { schedule-words = d .words; input-bytes = t .bytes; buffer-bytes = f };
+              good = record { scheduled = d .right-length; full-input = t .long; full-output = h .full .opened };
+            };
+            number = r;
+            answer = u;
+          } in
+          record { answered = answers-0 (decryptCall w) n; same = decrypt-undoes-encrypt m n }
+
+-- ---- the check value and an encryption of zeros
+module _ (w : Width) (s t o : List ℕ) (g : Fit (bits w) s) (z : Fit 8 (replicate (16 * slots w) 0)) (e : Fit 8 t) (f : Fit 8 o) where
+  checking : {r : ℕ} {x : List ℕ} → answers r x ≡ checkOutcome w s t → (roundsOf s ≡ 0 → ⊥) → length t ≡ 3 → Checks w s x
+  checking {r} a p q = record {
+    buffer = t;
+    can = record { fits = record { schedule-words = g; buffer-bytes = e }; good = record { scheduled = p; three = q } };
+    number = r;
+    answer = a;
+  }
+
+  pub check-stops : {r : ℕ} {x : List ℕ} → answers r x ≡ checkOutcome w s t → (r ≡ 0 → ⊥) → Agrees w s t o r x o
+  unfolding checking
+  check-stops a h = record { agrees = λ p q u. absurd (h (answers-0 (checkCall w) (checking a p q))) }
+
+  pub check-agrees : {r₀ r : ℕ} {x y : List ℕ} → answers r₀ x ≡ checkOutcome w s t → answers r y ≡ encryptOutcome w s (replicate (16 * slots w) 0) o
+      → Agrees w s t o r x y
+  check-agrees {r₀} {r} {x} {y} a c = record { agrees = agrees }
+    where
+      agrees : (roundsOf s ≡ 0 → ⊥) → length t ≡ 3 → length o ≡ 16 * slots w → (r ≡ 0) × (x ≡ take 3 y)
+      agrees p q u =
+          let n : Encrypts w s (replicate (16 * slots w) 0) y = record {
+            buffer = o;
+            can = record {
+              fits = record { schedule-words = g; input-bytes = z; buffer-bytes = f };
+              good = record { scheduled = p; full-input = length-replicate (16 * slots w) 0; full-output = u };
+            };
+            number = r;
+            answer = c;
+          } in
+          (answers-0 (encryptCall w) n, check-is-slot-0 (checking a p q) n ∙ take-take 3 16 y (lit≤ tt))

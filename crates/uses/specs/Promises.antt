@@ -1,0 +1,35 @@
+-- What functions over the exported calls promise, where the lengths are right: they follow from the contracts of crate host alone.
+use mathlib.Core.Path.{_≡_}
+use mathlib.Core.List.{List}
+use Prim.Native.Nat.{ℕ, _*_}
+use lib.ListN.{length, take}
+use Rattle.lanes.specs.Layout.{Width, w64, slots}
+use Rattle.calls.specs.Calls.{keyWordsOf, scheduleWords, roundsOf}
+
+-- a key, and three buffers of a full batch
+pub record Batches (w : Width) (i s o : List ℕ) : Type 0 where
+  pub input : length i ≡ 16 * slots w
+  pub sealed : length s ≡ 16 * slots w
+  pub opened : length o ≡ 16 * slots w
+
+-- the answer is 0 and what was opened is what was given
+pub record Back (r : ℕ) (input opened : List ℕ) : Type 0 where
+  pub answered : r ≡ 0
+  pub same : opened ≡ input
+
+-- through the door and back
+pub record DoorBack (key input sealed opened : List ℕ) (r : ℕ) (left : List ℕ) : Type 0 where
+  pub back : (keyWordsOf key ≡ 0 → ⊥) → Batches w64 input sealed opened → Back r input left
+
+-- by a schedule and back
+pub record ScheduleBack (w : Width) (key schedule input sealed opened : List ℕ) (r : ℕ) (left : List ℕ) : Type 0 where
+  pub back : (keyWordsOf key ≡ 0 → ⊥) → length schedule ≡ scheduleWords key → Batches w input sealed opened → Back r input left
+
+-- the check value is the beginning of an encryption of zeros
+pub record Agrees (w : Width) (schedule three batch : List ℕ) (r : ℕ) (check sealed : List ℕ) : Type 0 where
+  pub agrees : (roundsOf schedule ≡ 0 → ⊥) → length three ≡ 3 → length batch ≡ 16 * slots w → (r ≡ 0) × (check ≡ take 3 sealed)
+
+-- refused, and nothing is changed
+pub record Refused (before : List ℕ) (r : ℕ) (left : List ℕ) : Type 0 where
+  pub refused : r ≡ 0 → ⊥
+  pub kept : left ≡ before

@@ -1,0 +1,88 @@
+#!/bin/sh
+# shellcheck disable=SC2016 # what the stubs expand is theirs
+# Plants faults in what the gate runs, and holds .ci/run to failing at each with the right words. Around the real .ci/run and judge-edits.sh stands
+# a repository of stubs: an rt that proves nothing, and runs that say ok. Without a fault the gate must pass there.
+top=$(cd "$(dirname "$0")/../.." && pwd)
+. "$top/tools/common.sh"
+unset GATE_ALLOW_SKIP LOCKER_AES_LIB
+tree=$out/gate
+last='5 passed, 0 failed'
+count=0
+
+# script FILE: an executable with what stands on standard input.
+script() {
+    mkdir -p "$(dirname "$1")"
+    { echo '#!/bin/sh'; cat; } >"$1"
+    chmod +x "$1"
+}
+
+stubs() {
+    rm -rf "$tree"
+    mkdir -p "$tree/.ci" "$tree/tools" "$tree/crates/one/must-fail"
+    cp .ci/run "$tree/.ci/run"
+    cp tools/judge-edits.sh "$tree/tools/"
+    : >"$tree/crates/one/must-fail/edit.edit"
+    echo 'exit "${CHECK:-0}"' | script "$tree/tools/check-stub.sh"
+    sed -n "/^runs='/,/^'/p" .ci/run | sed '1d; $d' | while read -r run _; do
+        echo '[ -z "${LOCKER_AES_LIB:-}" ] && echo ok stub' | script "$tree/$run"
+    done
+    echo 'echo "${SAYS:-ok stub}"; exit "${RUN:-0}"' | script "$tree/tests/oracle/run.sh"
+    script "$tree/bin/rt" <<'END'
+case $1 in
+    fmt) exit "${FMT:-0}" ;;
+    ci)
+        mkdir -p target/must-fail/one/edit
+        [ -n "${UNTRIED:-}" ] || printf '%s\n' "${LOG:-proofs/Proof.antt:1:1: error: the two sides differ}" >target/must-fail/one/edit/.log
+        echo "proving"
+        echo "${LAST:-5 passed, 0 failed}"
+        exit "${CI:-0}"
+        ;;
+    staticlib) mkdir -p target/staticlib && : >target/staticlib/libhost.a && exit "${LIB:-0}" ;;
+esac
+END
+}
+
+gate() { # NAME=VALUE..
+    rm -rf "$tree/target"
+    env PATH="$tree/bin:$PATH" "$@" "$tree/.ci/run" >"$out/said" 2>&1
+}
+
+# passes NAME=VALUE..: the gate passes, and rt's last line is its own.
+passes() {
+    count=$((count + 1))
+    if gate "$@" && [ "$(tail -n 1 "$out/said")" = "$last" ]; then return; fi
+    cat "$out/said"
+    fail "the gate fails with: $*"
+}
+
+# fails WORDS NAME=VALUE..: the gate fails, says the words, and does not end as if it had passed.
+fails() {
+    words=$1
+    shift
+    count=$((count + 1))
+    if ! gate "$@" && grep -qF "$words" "$out/said" && [ "$(tail -n 1 "$out/said")" != "$last" ]; then return; fi
+    cat "$out/said"
+    fail "the gate passes, or does not say '$words', with: $*"
+}
+
+stubs
+passes GATE_ALLOW_SKIP=
+passes LOCKER_AES_LIB=another.a # the stubs fail if they see it
+passes SAYS='skipped: stub' GATE_ALLOW_SKIP=1
+fails 'a run was skipped' SAYS='skipped: stub'
+fails 'did not end in a line that says ok' SAYS='done'
+fails 'tests/oracle/run.sh failed' RUN=1
+fails 'rt fmt --check failed' FMT=1
+fails 'tools/check-stub.sh failed' CHECK=1
+fails 'rt ci failed' LAST='0 passed, 0 failed'
+fails 'rt ci failed' LAST='5 passed, 1 failed'
+fails 'rt ci failed' LAST='5 crates proved'
+fails 'rt ci failed' CI=1
+fails 'shows nothing' LOG='Proof.antt:1:1: error: the record has no `Need-3`'
+fails 'shows nothing' LOG='Proof.antt:1:1: error: expected type `tie.Need-2`'
+fails 'shows nothing' LOG='logic=not-proved'
+fails 'shows nothing' UNTRIED=1
+fails 'rt staticlib host failed' LIB=1
+rm "$tree/tests/oracle/run.sh"
+fails 'is listed, and there is no such script' GATE_ALLOW_SKIP=1
+echo "ok gate: $count tries, each ended as it must"

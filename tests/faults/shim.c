@@ -1,0 +1,195 @@
+/*
+ * The library with one fault planted: every export passes on to the real function, which run.sh has renamed, and CALL
+ * has FAULT. docs/FAULTS.md says what each fault is and which run must catch it. With FAULT none it is the library.
+ */
+#include <stdlib.h>
+#include <string.h>
+
+#include "locker_aes.h"
+
+enum call { door, expand32, expand64, encrypt32, encrypt64, decrypt32, decrypt64, check32, check64 };
+enum fault {
+    none,
+    /* what is written */
+    other_direction, blocks_swapped, slots_swapped, end_unwritten, added_to_output, wrong_for_one_bit,
+    wrong_for_one_slot, half_key, one_bit, slot_empty, last_key_shifted, nots_on_key_0,
+    /* the number */
+    zero_refused, output_tested_first, direction_tested_first, takes_one_more, cut_to_8, cut_to_16, cut_to_32,
+    direction_cut,
+    /* the buffers */
+    refusal_writes, refusal_writes_at_one_length, refusal_writes_and_back, reads_past, reads_before, reads_nothing,
+    writes_past, changes_input, changes_input_and_back,
+    /* state */
+    static_data, thread_data, allocates, system_call, exports_more,
+    /* secrets */
+    branches, branches_on_block, branches_when_refused, looks_up, looks_up_by_block, leaves_schedule, large_stack,
+};
+
+/* The real functions. */
+#define REAL(name) extern __typeof__(locker_aes##name) real_locker_aes##name;
+REAL() REAL(_expand32) REAL(_expand64) REAL(_encrypt32) REAL(_encrypt64) REAL(_decrypt32) REAL(_decrypt64)
+REAL(_check32) REAL(_check64)
+
+static uint32_t real(enum call call, uint32_t direction, void *const at[3], const size_t n[3])
+{
+    switch (call) {
+    case door: return real_locker_aes(direction, at[0], n[0], at[1], n[1], at[2], n[2]);
+    case expand32: return real_locker_aes_expand32(at[0], n[0], at[1], n[1]);
+    case expand64: return real_locker_aes_expand64(at[0], n[0], at[1], n[1]);
+    case encrypt32: return real_locker_aes_encrypt32(at[0], n[0], at[1], n[1], at[2], n[2]);
+    case encrypt64: return real_locker_aes_encrypt64(at[0], n[0], at[1], n[1], at[2], n[2]);
+    case decrypt32: return real_locker_aes_decrypt32(at[0], n[0], at[1], n[1], at[2], n[2]);
+    case decrypt64: return real_locker_aes_decrypt64(at[0], n[0], at[1], n[1], at[2], n[2]);
+    case check32: return real_locker_aes_check32(at[0], n[0], at[1], n[1]);
+    default: return real_locker_aes_check64(at[0], n[0], at[1], n[1]);
+    }
+}
+
+#define KEEP(x) __asm__ volatile("" : : "r"(x) : "memory") /* the compiler must have x */
+
+static const uint8_t table[256];
+static uint8_t scratch[64];
+static __thread uint8_t thread_scratch[64];
+
+/* Rows of each of a key's eight words turned by as many quarters as their number: InvShiftRows, of every slot. */
+static void shift_key(uint8_t *words, size_t word)
+{
+    size_t row = 2 * word, p, r;
+    for (p = 0; p < 8; p++) {
+        uint64_t w = 0, shifted = 0;
+        memcpy(&w, words + word * p, word);
+        for (r = 0; r < 4; r++) {
+            uint64_t bits = w >> row * r & (((uint64_t)1 << row) - 1), by = row / 4 * r;
+            shifted |= (bits << by | bits >> (row - by)) % ((uint64_t)1 << row) << row * r;
+        }
+        memcpy(words + word * p, &shifted, word);
+    }
+}
+
+static inline uint32_t shim(enum call call, uint32_t direction, const void *a, size_t an, const void *b, size_t bn,
+                            void *c, size_t cn)
+{
+    enum call to = call;
+    void *at[3] = {(void *)(uintptr_t)a, (void *)(uintptr_t)b, c};
+    size_t n[3] = {an, bn, cn}, i;
+    const size_t word = call == expand32 || call == encrypt32 || call == decrypt32 || call == check32 ? 4 : 8;
+    const int expands = call == expand32 || call == expand64, checks = call == check32 || call == check64;
+    const int last = expands || checks ? 1 : 2, takes_schedule = call != door && !expands;
+    const size_t right = expands ? (an == 16 ? 88 : 120) : checks ? 3 : 8 * word;
+    const size_t size0 = takes_schedule ? word * an : an, size = expands ? word * n[last] : n[last];
+    uint8_t *first = at[0], *out = at[last], was[960], words[960], bits = 0, others = 0, end[16], room[8192];
+    uint64_t schedule[120];
+    uint32_t answer;
+
+#define HAS(fault) (CALL == call && FAULT == (fault))
+    if (HAS(other_direction)) {
+        if (call == door && direction < 2) direction ^= 1;
+        if (call != door) to = call < decrypt32 ? call + 2 : call - 2;
+    }
+    if (HAS(slots_swapped) && size0 <= sizeof words) {
+        for (i = 0; i < size0; i++) words[i] = (uint8_t)((first[i] & 0x55) << 1 | (first[i] & 0xaa) >> 1);
+        at[0] = words;
+    }
+    if (HAS(half_key) && an == 32) n[0] = 16;
+    if (HAS(zero_refused) && (an == 16 || an == 32)) {
+        for (i = 0; i < an; i++) bits |= first[i];
+        if (!bits) return 1;
+    }
+    if (HAS(output_tested_first) && (expands ? n[1] != 88 && n[1] != 120 : n[last] != right)) return expands ? 2 : 4;
+    if (HAS(direction_tested_first) && direction > 1) return 5;
+    if (HAS(takes_one_more) && n[last] == right + 1) n[last]--;
+    for (i = 0; i < 3; i++) {
+        if (HAS(cut_to_8)) n[i] = (uint8_t)n[i];
+        if (HAS(cut_to_16)) n[i] = (uint16_t)n[i];
+        if (HAS(cut_to_32)) n[i] = (uint32_t)n[i];
+    }
+    if (HAS(direction_cut)) direction = (uint8_t)direction;
+    if (HAS(reads_past)) KEEP(first[size0]);
+    if (HAS(reads_before)) KEEP(first[-1]);
+    if (HAS(reads_nothing)) KEEP(first[0]);
+    if (HAS(changes_input_and_back) && size0) {
+        *(volatile uint8_t *)first ^= 1;
+        *(volatile uint8_t *)first ^= 1;
+    }
+    if (HAS(static_data) && bn == sizeof scratch) at[1] = memcpy(scratch, b, bn);
+    if (HAS(thread_data) && bn == sizeof thread_scratch) at[1] = memcpy(thread_scratch, b, bn);
+    if (HAS(allocates)) {
+        void *memory = malloc(64);
+        KEEP(memory);
+        free(memory);
+    }
+    if (HAS(system_call)) __asm__ volatile("syscall" : "=a"(i) : "a"(39) : "rcx", "r11", "memory");
+    if (HAS(branches) && size0 && first[0] == 1) KEEP(first);
+    if (HAS(branches_on_block) && bn && ((const uint8_t *)b)[bn - 1] == 1) KEEP(first);
+    if (HAS(large_stack)) KEEP(room);
+    if ((HAS(end_unwritten) || HAS(added_to_output)) && size <= sizeof was) memcpy(was, out, size);
+
+    answer = real(to, direction, at, n);
+
+    if (HAS(large_stack)) KEEP(room); /* here too: the call above must not be this one's return */
+    if (HAS(leaves_schedule) && !real_locker_aes_expand64(first, an, schedule, an == 16 ? 88 : 120)) KEEP(schedule);
+    if (HAS(branches_when_refused) && answer && size0 && first[0] == 1) KEEP(first);
+    if (answer) {
+        if (HAS(refusal_writes) && size) out[0] ^= 1;
+        if (HAS(refusal_writes_at_one_length) && n[last] == right - 1) out[0] ^= 1;
+        if (HAS(refusal_writes_and_back) && size) *(volatile uint8_t *)out ^= 1, *(volatile uint8_t *)out ^= 1;
+        return answer;
+    }
+    if (HAS(looks_up) || HAS(looks_up_by_block)) {
+        const uint8_t *hidden = table;
+        __asm__("" : "+r"(hidden)); /* the compiler must not know that it holds zeros */
+        out[0] ^= hidden[HAS(looks_up) ? first[0] : *(const uint8_t *)b];
+    }
+    if (HAS(blocks_swapped)) {
+        memcpy(end, out + size - 16, 16);
+        memcpy(out + size - 16, out + size - 32, 16);
+        memcpy(out + size - 32, end, 16);
+    }
+    if (HAS(end_unwritten)) i = checks ? 1 : 16, memcpy(out + size - i, was + size - i, i);
+    if (HAS(added_to_output)) for (i = 0; i < size; i++) out[i] ^= was[i];
+    if (HAS(wrong_for_one_bit) || HAS(wrong_for_one_slot)) {
+        size_t set = 0;
+        for (i = 0; i < 8 * size0; i++) set += first[i / 8] >> i % 8 & 1;
+        for (i = 0; i < size0; i++) others |= first[i] & (word == 4 ? 0xaa : 0xee);
+        if (HAS(wrong_for_one_bit) ? set == 1 : set && !others) out[0] ^= 1;
+    }
+    if (HAS(one_bit)) out[size - 1] ^= 0x80;
+    if (HAS(slot_empty)) for (i = 0; i < size; i++) out[i] &= word == 4 ? 0x55 : 0x77;
+    if (HAS(last_key_shifted)) shift_key(out + size - 8 * word, word);
+    if (HAS(nots_on_key_0))
+        for (i = 0; i < 8 * word; i++) if (i / word < 2 || i / word == 5 || i / word == 6) out[i] = (uint8_t)~out[i];
+    if (HAS(writes_past)) out[size] ^= 1;
+    if (HAS(changes_input)) first[0] ^= 1;
+    return answer;
+}
+
+uint32_t locker_aes(uint32_t direction, const uint8_t *k, size_t kn, const uint8_t *i, size_t in, uint8_t *o, size_t on)
+{
+    return shim(door, direction, k, kn, i, in, o, on);
+}
+#define WIDTH(bits)                                                                                                    \
+    uint32_t locker_aes_expand##bits(const uint8_t *k, size_t kn, uint##bits##_t *s, size_t sn)                        \
+    {                                                                                                                  \
+        return shim(expand##bits, 0, k, kn, s, sn, NULL, 0);                                                           \
+    }                                                                                                                  \
+    uint32_t locker_aes_encrypt##bits(const uint##bits##_t *s, size_t sn, const uint8_t *i, size_t in, uint8_t *o,     \
+                                      size_t on)                                                                       \
+    {                                                                                                                  \
+        return shim(encrypt##bits, 0, s, sn, i, in, o, on);                                                            \
+    }                                                                                                                  \
+    uint32_t locker_aes_decrypt##bits(const uint##bits##_t *s, size_t sn, const uint8_t *i, size_t in, uint8_t *o,     \
+                                      size_t on)                                                                       \
+    {                                                                                                                  \
+        return shim(decrypt##bits, 0, s, sn, i, in, o, on);                                                            \
+    }                                                                                                                  \
+    uint32_t locker_aes_check##bits(const uint##bits##_t *s, size_t sn, uint8_t *o, size_t on)                         \
+    {                                                                                                                  \
+        return shim(check##bits, 0, s, sn, o, on, NULL, 0);                                                            \
+    }
+WIDTH(32)
+WIDTH(64)
+
+#ifdef PLANT_exports_more
+extern const uint32_t locker_aes_more;
+const uint32_t locker_aes_more = 1;
+#endif

@@ -1,0 +1,51 @@
+/*
+ * A program of somebody who has the installed library only: built with what pkg-config says, as C and as C++. It runs
+ * FIPS-197's Appendix C.1 and C.3 through every function and prints the header's version.
+ */
+#include <locker_aes.h>
+#include <stdio.h>
+#include <string.h>
+
+static int failures;
+
+static void expect(int holds, const char *what)
+{
+    if (!holds) printf("FAILED: %s\n", what), failures++;
+}
+
+/* Expansion, both directions and the check value at one width, in every slot of a batch. */
+#define WIDTH(BITS)                                                                                                    \
+    do {                                                                                                               \
+        static uint##BITS##_t schedule[LOCKER_AES_WORDS_256];                                                          \
+        const size_t n = LOCKER_AES_BATCH_##BITS;                                                                      \
+        memset(back, 0, sizeof back);                                                                                  \
+        expect(locker_aes_expand##BITS(key, key_len, schedule, words) == LOCKER_AES_OK, "expand" #BITS);               \
+        expect(locker_aes_encrypt##BITS(schedule, words, plain, n, out, n) == LOCKER_AES_OK, "encrypt" #BITS);         \
+        expect(locker_aes_decrypt##BITS(schedule, words, out, n, back, n) == LOCKER_AES_OK, "decrypt" #BITS);          \
+        expect(memcmp(out, expected, n) == 0 && memcmp(back, plain, n) == 0, "blocks, width " #BITS);                  \
+        expect(locker_aes_check##BITS(schedule, words, check, sizeof check) == LOCKER_AES_OK, "check" #BITS);          \
+    } while (0)
+
+int main(void)
+{
+    static const uint8_t c1[] = "\x69\xc4\xe0\xd8\x6a\x7b\x04\x30\xd8\xcd\xb7\x80\x70\xb4\xc5\x5a";
+    static const uint8_t c3[] = "\x8e\xa2\xb7\xca\x51\x67\x45\xbf\xea\xfc\x49\x90\x4b\x49\x60\x89";
+    uint8_t key[32], plain[64], expected[64], out[64], back[64], check[LOCKER_AES_CHECK];
+    size_t key_len, i;
+
+    for (i = 0; i < 32; i++) key[i] = (uint8_t)i;
+    for (i = 0; i < 64; i++) plain[i] = (uint8_t)(i % 16 * 0x11);
+    for (key_len = 16; key_len <= 32; key_len += 16) {
+        const size_t words = key_len == 16 ? LOCKER_AES_WORDS_128 : LOCKER_AES_WORDS_256;
+        for (i = 0; i < 64; i += 16) memcpy(expected + i, key_len == 16 ? c1 : c3, 16);
+        WIDTH(32);
+        WIDTH(64);
+        expect(locker_aes(LOCKER_AES_ENCRYPT, key, key_len, plain, 64, out, 64) == LOCKER_AES_OK, "the door, encrypting");
+        expect(locker_aes(LOCKER_AES_DECRYPT, key, key_len, out, 64, back, 64) == LOCKER_AES_OK, "the door, decrypting");
+        expect(memcmp(out, expected, 64) == 0 && memcmp(back, plain, 64) == 0, "blocks by the door");
+    }
+    expect(locker_aes(LOCKER_AES_ENCRYPT, key, 17, plain, 64, out, 64) == LOCKER_AES_BAD_KEY_LENGTH, "a key of 17 bytes");
+    locker_aes_clear_stack();
+    printf("%s\n", LOCKER_AES_VERSION);
+    return failures;
+}
