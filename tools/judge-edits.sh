@@ -1,31 +1,47 @@
 #!/bin/sh
-# After `rt ci`, says of each must-fail edit why the prover refused it, by the first error of its log.
-# A good edit keeps the code's shape, and a fact no longer holds. One that only made a proof unfit for the code (a need that is gone or new, a
-# name that is not there, a text that does not parse) shows nothing: it fails, and so does an edit that was not tried.
+# After `rt ci`, says of each fault in a must-fail edit why the prover refused it. A check costs the same for one fault as for ten, so an edit has
+# several. `refused: w64::rounds` names the function with the fault, `refused: Laws stop` the law `stop` of proofs/Laws.antt, and in the log a
+# fact of its own must have failed. What was refused only since it rests on another refusal does not count; nor does an edit that made a proof
+# unfit for the code (a need that is gone or new, a name that is not there, a text that does not parse), nor one that was not tried.
 set -u
 cd "$(dirname "$0")/.." || exit 1
 # shellcheck disable=SC2016 # the backquotes are the prover's
-unfit='has no `Need-|expected type `tie\.Need-|that can be named from here|not in scope|exports no `|is not a member|no file|[Pp]arse|syntax'
+unfit='has no `Need-|expected type `tie\.Need-|that can be named from here|not in scope|exports no `|is not a member|no file|[Pp]arse|syntax|was not admitted'
 facts=0
 bad=0
+
+say() { # WORD EDIT PLACE TEXT
+    case $1 in fact) facts=$((facts + 1)) ;; *) bad=$((bad + 1)) ;; esac
+    printf '%-5s %s: %s: %s\n' "$1" "$2" "$3" "$4" | LC_ALL=C.UTF-8 sed 's/^\(.\{150\}\).*/\1/'
+}
+
 for edit in crates/*/must-fail/*.edit; do
     [ -f "$edit" ] || continue
-    name=$(basename "$(dirname "$(dirname "$edit")")")/$(basename "$edit" .edit)
+    crate=$(basename "$(dirname "$(dirname "$edit")")")
+    name=$crate/$(basename "$edit" .edit)
     log=target/must-fail/$name/.log
-    first=
-    if [ -f "$log" ]; then
-        first=$(sed -n 's/^[^[:space:]]*: error: //p' "$log" | head -n 1)
-        [ -n "$first" ] || first=$(sed -n 's/^note: [^[:space:]]*: //p' "$log" | head -n 1)
+    if [ ! -f "$log" ]; then
+        say unfit "$name" all "not tried, there is no $log"
+        continue
     fi
-    if [ -n "$first" ] && ! printf '%s\n' "$first" | grep -qE "$unfit"; then
-        facts=$((facts + 1))
-        verdict='fact '
-    else
-        bad=$((bad + 1))
-        verdict=unfit
+    places=$(sed -n 's/^refused: //p' "$edit")
+    if [ -z "$places" ]; then
+        say unfit "$name" all "it does not say what is refused"
+        continue
     fi
-    [ -f "$log" ] || first="not tried, there is no $log"
-    printf '%s %s: %.150s\n' "$verdict" "$name" "${first:-no error in its log}"
+    # a fault is a paragraph, and one that names no place would go unjudged
+    unnamed=$(awk -v RS= '/(^|\n)old: / && !/(^|\n)refused: /' "$edit" | sed -n 's/^old: //p' | head -n 1)
+    [ -z "$unnamed" ] || say unfit "$name" "$unnamed" "it does not say where this is refused"
+    while read -r place law; do
+        path=$(printf '%s\n' "$place" | sed 's|::|/|g')
+        error="/proofs/$path(/Proof)?\.antt:[0-9]+:[0-9]+: error: \`${law:-[^\`]*}\`: "
+        why=$(grep -E "$error" "$log" | sed 's/^.*[0-9]: error: //' | grep -vE "$unfit" | head -n 1)
+        # a function without a proof file: the search for its proof has failed
+        [ -n "$why" ] || why=$(sed -n "s/^fn $crate::$place: no proof: .*; \(.search. does not close .*\)/\1/p" "$log" | head -n 1)
+        if [ -n "$why" ]; then say fact "$name" "$place" "$why"; else say unfit "$name" "$place $law" "no fact of its own failed"; fi
+    done <<END
+$places
+END
 done
-echo "edits: $facts refused by a fact, $bad unfit"
+echo "edits: $facts faults refused by a fact, $bad unfit"
 [ "$bad" -eq 0 ] && [ "$facts" -gt 0 ]

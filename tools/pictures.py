@@ -165,9 +165,12 @@ def speed():
 PROVES = {
     "fips197": "FIPS-197 byte by byte; what undoes what, and the check of everything linear",
     "lanes": "where bytes stand in words, how a schedule is read; what a word program does to every slot",
+    "appendices": "the worked examples of FIPS-197's appendices A and C, computed from the definitions",
     "outcome": "answers and refusals as values, and their laws",
     "calls": "what each public call promises; both sides of each limit, computed",
-    "utils": "row shifts, swaps and column sums do that to every slot's block",
+    "utils": "swaps, rotations, and eight words as one value",
+    "shift_rows": "the row shifts do that to every slot's block",
+    "round_keys": "a key added, and the next one made, in every slot",
     "word": "packing and unpacking are the layout and its inverse",
     "sbox": "the circuits are the S-box XOR 63 and its inverse, in every slot",
     "mix_columns": "the four forms are MixColumns between row shifts, and their inverses",
@@ -178,11 +181,12 @@ PROVES = {
     "host": "the C door and the exported calls keep the same promises",
     "uses": "what a caller may build on the exported promises alone",
 }
-NO_CODE = {"fips197", "lanes", "outcome", "calls", "theorems"}
+NO_CODE = {"fips197", "lanes", "appendices", "outcome", "calls", "theorems"}
 # the row and the column of each, so that a line that passes a row passes it between boxes
 PLACES = {
-    "fips197": (0, 1), "lanes": (1, 1), "outcome": (1, 3), "utils": (2, 1), "calls": (2, 3), "word": (3, 0), "sbox": (3, 1), "mix_columns": (3, 2),
-    "schedule": (4, 0.5), "cipher": (4, 1.5), "aes": (5, 1), "theorems": (5, 3), "host": (6, 1), "uses": (7, 2),
+    "fips197": (0, 2), "outcome": (0, 5), "lanes": (1, 2), "appendices": (1, 3.5), "utils": (2, 2), "calls": (2, 5), "word": (3, 0), "shift_rows": (3, 1),
+    "round_keys": (3, 2), "sbox": (3, 3), "mix_columns": (3, 4), "schedule": (4, 1), "cipher": (4, 2.5), "aes": (5, 2), "theorems": (5, 4.5),
+    "host": (6, 2), "uses": (7, 3),
 }
 
 
@@ -206,8 +210,8 @@ def crates():
         return any(d == b or reaches(d, b) for d in deps[a])
 
     direct = {a: [d for d in deps[a] if not any(reaches(e, d) for e in deps[a] if e != d)] for a in shown}
-    wide, tall, across, down = 222, 104, 17, 36
-    size = 1000
+    wide, tall, across, down = 186, 104, 14, 36
+    size = 1246
     rows = 1 + max(PLACES[name][0] for name in shown)
     height = 100 + rows * (tall + down) + 58
     picture = Picture(size, height, "The crates and what each proves")
@@ -239,7 +243,7 @@ def crates():
         picture.text(x + 12, y + 22, name, 15, weight="bold")
         words, said = PROVES[name].split(), [""]
         for word in words:
-            if len(said[-1]) + 1 + len(word) > 31:
+            if len(said[-1]) + 1 + len(word) > 25:
                 said.append("")
             said[-1] = (said[-1] + " " + word).strip()
         for k, text in enumerate(said):

@@ -21,23 +21,24 @@ stubs() {
     mkdir -p "$tree/.ci" "$tree/tools" "$tree/crates/one/must-fail"
     cp .ci/run "$tree/.ci/run"
     cp tools/judge-edits.sh "$tree/tools/"
-    : >"$tree/crates/one/must-fail/edit.edit"
-    echo 'exit "${CHECK:-0}"' | script "$tree/tools/check-stub.sh"
+    echo 'refused: w64::f' >"$tree/crates/one/must-fail/edit.edit"
+    echo 'exit "${STUB_CHECK:-0}"' | script "$tree/tools/check-stub.sh"
     sed -n "/^runs='/,/^'/p" .ci/run | sed '1d; $d' | while read -r run _; do
         echo '[ -z "${LOCKER_AES_LIB:-}" ] && echo ok stub' | script "$tree/$run"
     done
-    echo 'echo "${SAYS:-ok stub}"; exit "${RUN:-0}"' | script "$tree/tests/oracle/run.sh"
+    echo 'echo "${STUB_SAYS:-ok stub}"; exit "${STUB_RUN:-0}"' | script "$tree/tests/oracle/run.sh"
     script "$tree/bin/rt" <<'END'
 case $1 in
-    fmt) exit "${FMT:-0}" ;;
+    fmt) exit "${STUB_FMT:-0}" ;;
     ci)
         mkdir -p target/must-fail/one/edit
-        [ -n "${UNTRIED:-}" ] || printf '%s\n' "${LOG:-proofs/Proof.antt:1:1: error: the two sides differ}" >target/must-fail/one/edit/.log
+        refusal='one/edit/proofs/w64/f/Proof.antt:1:1: error: `returns`: they differ'
+        [ -n "${STUB_UNTRIED:-}" ] || printf '%s\n' "${STUB_LOG:-$refusal}" >target/must-fail/one/edit/.log
         echo "proving"
-        echo "${LAST:-5 passed, 0 failed}"
-        exit "${CI:-0}"
+        echo "${STUB_LAST:-5 passed, 0 failed}"
+        exit "${STUB_CI:-0}"
         ;;
-    staticlib) mkdir -p target/staticlib && : >target/staticlib/libhost.a && exit "${LIB:-0}" ;;
+    staticlib) mkdir -p target/staticlib && : >target/staticlib/libhost.a && exit "${STUB_LIB:-0}" ;;
 esac
 END
 }
@@ -68,21 +69,35 @@ fails() {
 stubs
 passes GATE_ALLOW_SKIP=
 passes LOCKER_AES_LIB=another.a # the stubs fail if they see it
-passes SAYS='skipped: stub' GATE_ALLOW_SKIP=1
-fails 'a run was skipped' SAYS='skipped: stub'
-fails 'did not end in a line that says ok' SAYS='done'
-fails 'tests/oracle/run.sh failed' RUN=1
-fails 'rt fmt --check failed' FMT=1
-fails 'tools/check-stub.sh failed' CHECK=1
-fails 'rt ci failed' LAST='0 passed, 0 failed'
-fails 'rt ci failed' LAST='5 passed, 1 failed'
-fails 'rt ci failed' LAST='5 crates proved'
-fails 'rt ci failed' CI=1
-fails 'shows nothing' LOG='Proof.antt:1:1: error: the record has no `Need-3`'
-fails 'shows nothing' LOG='Proof.antt:1:1: error: expected type `tie.Need-2`'
-fails 'shows nothing' LOG='logic=not-proved'
-fails 'shows nothing' UNTRIED=1
-fails 'rt staticlib host failed' LIB=1
+passes CI=true RUN=1 LIB=1 LOG=1 # a machine's own variables: the stubs read none but STUB_..
+passes STUB_SAYS='skipped: stub' GATE_ALLOW_SKIP=1
+fails 'a run was skipped' STUB_SAYS='skipped: stub'
+fails 'did not end in a line that says ok' STUB_SAYS='done'
+fails 'tests/oracle/run.sh failed' STUB_RUN=1
+fails 'rt fmt --check failed' STUB_FMT=1
+fails 'tools/check-stub.sh failed' STUB_CHECK=1
+fails 'rt ci failed' STUB_LAST='0 passed, 0 failed'
+fails 'rt ci failed' STUB_LAST='5 passed, 1 failed'
+fails 'rt ci failed' STUB_LAST='5 crates proved'
+fails 'rt ci failed' STUB_CI=1
+at=one/edit/proofs
+passes STUB_LOG='fn one::w64::f: no proof: expected `f-spec`; `search` does not close `returns`'
+fails 'shows nothing' STUB_LOG="$at/w64/f/Proof.antt:1:1: error: \`returns\`: the record has no \`Need-3\`"
+fails 'shows nothing' STUB_LOG="$at/w64/f/Proof.antt:1:1: error: \`returns\`: expected type \`tie.Need-2\`"
+fails 'shows nothing' STUB_LOG="$at/w64/f/Proof.antt:1:1: error: \`f-spec\`: \`close\` was not admitted"
+fails 'shows nothing' STUB_LOG="$at/w64/g/Proof.antt:1:1: error: \`returns\`: they differ"
+fails 'shows nothing' STUB_LOG='fn one::w64::f: not proved; it calls `one::w64::g`, which is not proved'
+fails 'shows nothing' STUB_LOG='logic=not-proved'
+fails 'shows nothing' STUB_UNTRIED=1
+echo 'refused: Laws stop' >"$tree/crates/one/must-fail/edit.edit"
+passes STUB_LOG="$at/Laws.antt:1:1: error: \`stop\`: they differ"
+fails 'shows nothing' STUB_LOG="$at/Laws.antt:1:1: error: \`pass\`: they differ"
+printf '%s\n' 'refused: Laws stop' 'old: a' '' 'old: b' >"$tree/crates/one/must-fail/edit.edit"
+fails 'shows nothing' STUB_LOG="$at/Laws.antt:1:1: error: \`stop\`: they differ"
+: >"$tree/crates/one/must-fail/edit.edit"
+fails 'shows nothing' STUB_LOG="$at/w64/f/Proof.antt:1:1: error: \`returns\`: they differ"
+echo 'refused: w64::f' >"$tree/crates/one/must-fail/edit.edit"
+fails 'rt staticlib host failed' STUB_LIB=1
 rm "$tree/tests/oracle/run.sh"
 fails 'is listed, and there is no such script' GATE_ALLOW_SKIP=1
 echo "ok gate: $count tries, each ended as it must"

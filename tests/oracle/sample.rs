@@ -1,4 +1,4 @@
-//! The Rust's answers as lists for the repository: sample answers | sample schedules. `sample.sh` has the formats.
+//! The Rust's answers as a list for the repository. `sample.sh` has the format.
 use rust_aes::{FIPS_KEYS, Random, Width, hex, words};
 
 /// Records of one width and key length: under made schedules with kind's letter, under random ones in capitals.
@@ -29,26 +29,10 @@ fn answers<W: Width>(random: &mut Random, kind: char, key_len: usize) {
     }
 }
 
-fn schedule<W: Width>(key: &[u8]) {
-    let mut schedule = vec![W::low(0); words(key.len())];
-    W::expand(key, &mut schedule);
-    println!("{} {}", 8 * size_of::<W>(), hex(key));
-    for eight in schedule.chunks(8) {
-        println!("{}", eight.iter().map(|w| hex(&[*w])).collect::<Vec<_>>().join(" "));
-    }
-}
-
 fn main() {
-    if std::env::args().nth(1).as_deref() == Some("schedules") {
-        for key in FIPS_KEYS {
-            schedule::<u32>(key);
-            schedule::<u64>(key);
-        }
-    } else {
-        let random = &mut Random(197);
-        answers::<u32>(random, 'a', 16);
-        answers::<u32>(random, 'b', 32);
-        answers::<u64>(random, 'c', 16);
-        answers::<u64>(random, 'd', 32);
-    }
+    let random = &mut Random(197);
+    answers::<u32>(random, 'a', 16);
+    answers::<u32>(random, 'b', 32);
+    answers::<u64>(random, 'c', 16);
+    answers::<u64>(random, 'd', 32);
 }

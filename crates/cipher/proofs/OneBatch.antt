@@ -4,14 +4,14 @@ use mathlib.Core.Path.{_≡_, refl, sym, _∙_, ap, subst}
 use mathlib.Core.List.{List, _++_, append-nil}
 use Prim.Native.Nat.{ℕ, _+_, _*_, _<_, _≤_}
 use native.Mathlib.Omega.{arith}
-use lib.Dec.{lit<}
 use lib.ListN.{take, drop, length, length-append, length-drop, drop-of-length-le}
 use lib.Seq.{take-all, take-at}
 use Rattle.fips197.specs.Bytes.{Fit, Block, Data}
 use Rattle.fips197.specs.Aes.{sixteen, cipher}
 use Rattle.fips197.proofs.Blocks.{fit-append, fit-drop}
-use Rattle.lanes.specs.Layout.{Width, w32, w64, slots}
+use Rattle.lanes.specs.Layout.{Width, slots}
 use Rattle.lanes.specs.Schedule.{reading, encryptedBatch}
+use Rattle.lanes.proofs.EachBlock.{some-slot}
 use Rattle.cipher.proofs.Batches.{forth, crypted-slot}
 
 -- ---- the loop over the batches of a call, of which there is one: i of them are done, each by f
@@ -39,10 +39,6 @@ batches-one {f} {input} {o₀} {o} {ws} i at k ei ea long out eight e t = record
         ∙ append-nil ws
 
 -- ---- one block at the front of a batch, in slot 0
-some-slot : (w : Width) → 0 < slots w
-some-slot w32 = lit< tt
-some-slot w64 = lit< tt
-
 -- the block x is stored into the first bytes of the batch z: ws is that part, as it is given back
 module _ (w : Width) {x z ws : List ℕ} (stored-is : ws ≡ x) (block : Block x) (batch : Data (slots w) z) where
   pub front-length : length (take 0 z ++ (ws ++ drop 16 (drop 0 z))) ≡ 16 * slots w

@@ -29,13 +29,3 @@ fn load16(part: &[u8]) -> [u8; 16]
         part[15],
     ]
 }
-
-// One value into the sixteen bytes of a part.
-fn store16(part: &mut [u8], block: [u8; 16])
-    requires { ⌜ length (now part) ≡ 16 ⌝ }
-    ensures { λ r. ⌜ now (part .exit) ≡ block ⌝ }
-{
-    for i in 0..16 {
-        part[i] = block[i];
-    }
-}

@@ -8,11 +8,11 @@ use mix_columns::w64::mix_columns_0;
 use mix_columns::w64::mix_columns_1;
 use mix_columns::w64::mix_columns_2;
 use mix_columns::w64::mix_columns_3;
+use round_keys::w64::add_round_key;
 use sbox::w64::inv_sub_bytes;
 use sbox::w64::sub_bytes;
-use utils::w64::add_round_key;
-use utils::w64::inv_shift_rows_2;
-use utils::w64::shift_rows_2;
+use shift_rows::w64::inv_shift_rows_2;
+use shift_rows::w64::shift_rows_2;
 use word::w64::bitslice;
 use word::w64::inv_bitslice;
 
@@ -180,7 +180,7 @@ pub fn encrypt_block(schedule: &[Word], n: usize, block: [u8; 16]) -> [u8; 16]
 {
     let mut input = zeros();
     let mut output = zeros();
-    super::store16(&mut input[0..16], block);
+    word::copy16(block, &mut input[0..16]);
     encrypt(schedule, n, &input, &mut output);
     super::load16(&output[0..16])
 }

@@ -3,9 +3,9 @@ pub mod Bits
 pub mod Linear
 pub mod Layers
 pub mod Tables
+pub mod Quick
 pub mod Blocks
 pub mod Laws
 pub mod Ciphers
 pub mod Keys
 pub mod Cases
-pub mod Examples

@@ -5,14 +5,20 @@ use mathlib.Core.List.{List}
 use Prim.Native.Nat.{ℕ, _+_, _*_, _%_, _<_}
 use native.Mathlib.Nat.{zero-add, mod-eq-of-lt}
 use native.Mathlib.Omega.{arith}
+use lib.Dec.{lit<}
 use lib.ListN.{drop}
 use Rattle.fips197.specs.Bytes.{Block, Data}
 use Rattle.fips197.specs.Aes.{sixteen}
 use Rattle.fips197.proofs.Blocks.{fit-take, fit-drop}
-use Rattle.lanes.specs.Layout.{Width, slots, slot, join}
+use Rattle.lanes.specs.Layout.{Width, w32, w64, slots, slot, join}
 use Rattle.lanes.specs.Schedule.{eachBlock}
 use Rattle.lanes.specs.Leaves.{unpacked}
 use Rattle.lanes.proofs.EqualParts.{joined-length, joined-at, joined-fit, joined-same, part-length, parts-one}
+
+-- there is a slot 0
+pub some-slot : (w : Width) → 0 < slots w
+some-slot w32 = lit< tt
+some-slot w64 = lit< tt
 
 -- block j of k blocks
 pub block-of : {k : ℕ} {i : List ℕ} → Data k i → (j : ℕ) → j < k → Block (sixteen i j)

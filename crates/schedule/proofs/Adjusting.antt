@@ -55,32 +55,41 @@ module _ (w : Width) (f : ℕ → List ℕ → List ℕ) where
       let c = lent w (8 * r) k e fits eight d in
       record { some = omega arith; few = omega arith; long = c .long ∙ t .long; done = adjusted-more r (t .some) (t .long) (t .done) c }
 
--- ---- all parts: the round keys, the inverse row shifts of keys 1 to n - 1, and the NOTs of keys 1 to n
+-- ---- a round key as it is held: the last by its NOTs only, another by its row shifts before them
+written-last : (n r : ℕ) (k : List ℕ) → 1 ≤ r → r ≡ n → add63 k ≡ writeKey n r k
+unfolding writeKey
+written-last n zero k h e = absurd (omega arith)
+written-last n (suc r) k h e = rw (eq-eqb (suc r) n e) refl
+
+written-inner : (n r : ℕ) (k : List ℕ) → 1 ≤ r → (r ≡ n → ⊥) → add63 (rowsUnshifted (r % 4) k) ≡ writeKey n r k
+unfolding writeKey
+written-inner n zero k h e = absurd (omega arith)
+written-inner n (suc r) k h e = rw (ne-eqb (suc r) n e) refl
+
+module _ {w : Width} {s t : List ℕ} where
+  pub shift-then-nots : (times : ℕ) {u : List ℕ} → Does w (all (rowsUnshifted times)) s u → Does w (all add63) u t
+      → Does w (all (λ k. add63 (rowsUnshifted times k))) s t
+  shift-then-nots times d d′ = record { each = λ b k. d′ .each b k ∙ ap add63 (d .each b k) }
+
+  pub write-last : {r n : ℕ} → 1 ≤ r → r ≡ n → Does w (all add63) s t → Does w (all (writeKey n r)) s t
+  write-last {r} {n} pos e d = record { each = λ b k. d .each b k ∙ written-last n r _ pos e }
+
+  pub write-inner : {r n : ℕ} → 1 ≤ r → (r ≡ n → ⊥) → Does w (all (λ k. add63 (rowsUnshifted (r % 4) k))) s t → Does w (all (writeKey n r)) s t
+  write-inner {r} {n} pos e d = record { each = λ b k. d .each b k ∙ written-inner n r _ pos e }
+
+-- ---- all parts: the round keys, and keys 1 to n as they are held
 module _ (w : Width) (nk : ℕ) (key : List ℕ) (pos : 1 ≤ nk) (long : length key ≡ 4 * nk) (fits : Fit 8 key) where
-  module _ {n end : ℕ} {l₁ l₂ l₃ : List ℕ} (rounds : n ≡ roundsFor nk) (ends : end ≡ n + 1) (long₁ : length l₁ ≡ 8 * end)
-      (keys : Keys w nk (nk + 7) key l₁) (shifted : Adjusted w (λ r. rowsUnshifted (r % 4)) n l₁ l₂) (nots : Adjusted w (λ r. add63) end l₂ l₃) where
+  module _ {n : ℕ} {l₁ l₂ : List ℕ} (rounds : n ≡ roundsFor nk) (long₁ : length l₁ ≡ 8 * (n + 1))
+      (keys : Keys w nk (nk + 7) key l₁) (written : Adjusted w (writeKey n) (n + 1) l₁ l₂) where
     key-there : (b : ℕ) → b < slots w → (r : ℕ) → r < n + 1 → stored w l₁ b r ≡ sixteen (keyWords nk key) r
     key-there b h r k = keys .at b h r (omega arith) (omega arith)
 
-    -- keys 1 to n, by the test whether it is the last
-    later : (b : ℕ) → b < slots w → (r : ℕ) → suc r < n + 1 → Dec (suc r < n)
-        → stored w l₃ b (suc r) ≡ writeKey n (suc r) (sixteen (keyWords nk key) (suc r))
+    each : (b : ℕ) → b < slots w → (r : ℕ) → r < n + 1 → stored w l₂ b r ≡ writeKey n r (sixteen (keyWords nk key) r)
     unfolding writeKey
-    later b h r k (yes q) =
-        nots .inner b h r (omega arith)
-        ∙ ap add63 (shifted .inner b h r q ∙ ap (rowsUnshifted (suc r % 4)) (key-there b h (suc r) k))
-        ∙ rw (ne-eqb (suc r) n (λ e. omega arith)) refl
-    later b h r k (no q) =
-        nots .inner b h r (omega arith)
-        ∙ ap add63 (shifted .outer b h (suc r) (omega arith) (omega arith) ∙ key-there b h (suc r) k)
-        ∙ rw (eq-eqb (suc r) n (omega arith)) refl
+    each b h zero k = written .first b h ∙ key-there b h 0 k
+    each b h (suc r) k = written .inner b h r k ∙ ap (writeKey n (suc r)) (key-there b h (suc r) k)
 
-    each : (b : ℕ) → b < slots w → (r : ℕ) → r < n + 1 → stored w l₃ b r ≡ writeKey n r (sixteen (keyWords nk key) r)
-    unfolding writeKey
-    each b h zero k = nots .first b h ∙ shifted .first b h ∙ key-there b h 0 k
-    each b h (suc r) k = later b h r k (decLt (suc r) n)
-
-    pub whole : length l₃ ≡ length l₁ → Fit (bits w) l₃ → l₃ ≡ scheduleOf w nk key
-    whole e₃ fit₃ =
-        schedule-is w nk key pos long fits l₃ (e₃ ∙ long₁ ∙ ap (λ (m : ℕ). 8 * m) (rw rounds at ends)) fit₃
+    pub whole : length l₂ ≡ length l₁ → Fit (bits w) l₂ → l₂ ≡ scheduleOf w nk key
+    whole e₂ fit₂ =
+        schedule-is w nk key pos long fits l₂ (e₂ ∙ long₁ ∙ ap (λ (m : ℕ). 8 * (m + 1)) rounds) fit₂
         (λ b h r k. rw (← rounds) (each b h r (rw (← rounds) at k)))

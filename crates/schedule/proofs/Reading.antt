@@ -3,18 +3,19 @@
 use mathlib.Core.Path.{_≡_, sym, ap, _∙_}
 use mathlib.Core.List.{List, [], map}
 use Prim.Native.Nat.{ℕ, zero, suc, _+_, _*_, _≤_, _<_}
-use native.Mathlib.Nat.{zero-add, zero-lt-suc}
+use native.Mathlib.Nat.{zero-add}
 use native.Mathlib.Omega.{arith}
 use lib.ListN.{getD, drop, length}
 use Rattle.fips197.specs.Bytes.{Fit}
 use Rattle.fips197.specs.Aes.{range, sixteen, roundsFor, keyWords, keyExpansion}
 use Rattle.fips197.proofs.Blocks.{fit-take, fit-drop}
 use Rattle.fips197.proofs.Keys.{key-at, key-block, expansion-one}
-use Rattle.lanes.specs.Layout.{Width, w32, w64, bits, slots, slot, pack, eachSlot}
+use Rattle.lanes.specs.Layout.{Width, bits, slots, slot, pack, eachSlot}
 use Rattle.lanes.specs.Schedule.{wordsAt, stored, readKey, reading, writeKey, scheduleOf}
 use Rattle.lanes.proofs.Packing.{slot-pack, slots-one, pack-length, pack-fits, stored-block}
 use Rattle.lanes.proofs.Parts.{words-length}
 use Rattle.lanes.proofs.EqualParts.{joined-length, joined-at, joined-fit, joined-same, parts-one}
+use Rattle.lanes.proofs.EachBlock.{some-slot}
 use Rattle.lanes.proofs.KeyRule.{write-block, read-write, write-read}
 
 -- ---- a list of round keys
@@ -102,10 +103,6 @@ module _ (w : Width) (nk : ℕ) (key : List ℕ) (pos : 1 ≤ nk) (long : length
       (λ b c. h b c ∙ sym (schedule-reads b c))
 
 -- two different keys of one length never share a schedule
-some-slot : (w : Width) → 0 < slots w
-some-slot w32 = zero-lt-suc 1
-some-slot w64 = zero-lt-suc 3
-
 pub schedule-one : (w : Width) (nk : ℕ) (k l : List ℕ) → 1 ≤ nk → nk ≤ 8 → length k ≡ 4 * nk → Fit 8 k → length l ≡ 4 * nk → Fit 8 l
     → scheduleOf w nk k ≡ scheduleOf w nk l → k ≡ l
 schedule-one w nk k l p q e f e′ f′ h =

@@ -1,25 +1,25 @@
 // Round keys of 32-bit words: each round key is eight words, the same block in every slot (docs/SCOPE.md, "Reading a schedule").
 ghost use Rattle.lanes.specs.Layout.{w32 as w};
+use round_keys::w32::add_round_constant;
+use round_keys::w32::memshift32;
+use round_keys::w32::xor_columns;
 use sbox::w32::sub_bytes_in;
 use sbox::w32::sub_bytes_nots_in;
-use utils::w32::add_round_constant;
-use utils::w32::inv_shift_rows_1_in;
-use utils::w32::inv_shift_rows_2_in;
-use utils::w32::inv_shift_rows_3_in;
+use shift_rows::w32::inv_shift_rows_1_in;
+use shift_rows::w32::inv_shift_rows_2_in;
+use shift_rows::w32::inv_shift_rows_3_in;
 use utils::w32::load;
-use utils::w32::memshift32;
 use utils::w32::store;
-use utils::w32::xor_columns;
 use word::w32::broadcast;
 
 type Word = u32;
 
 // ---- the same at both widths
 ghost use mathlib.Core.Path.{_≡_};
-ghost use Prim.Native.Nat.{_+_, _*_, _%_, _<_, _≤_};
+ghost use Prim.Native.Nat.{_+_, _*_, _<_, _≤_};
 ghost use lib.ListN.{length};
 ghost use Rattle.lanes.specs.Sizes.{keySize};
-ghost use Rattle.lanes.specs.Schedule.{add63, rowsUnshifted, scheduleOf};
+ghost use Rattle.lanes.specs.Schedule.{add63, rowsUnshifted, writeKey, scheduleOf};
 ghost use Rattle.lanes.specs.Leaves.{Does, all, Changes};
 ghost use Rattle.schedule.specs.Steps.{SizedFor, Expands, Follows, keyPass, nextOf, Loaded, Grows, Adjusted};
 
@@ -93,24 +93,24 @@ fn inv_shift_key(part: &mut [Word], times: usize)
     }
 }
 
-// Adjusts round keys 1 to `end`, `end` not counted, to the fixsliced format: key r by r mod 4 inverse row shifts.
-fn inv_shift_keys(rkeys: &mut [Word], end: usize)
-    requires { ⌜ (1 ≤ end) × (8 * end ≤ length (now rkeys)) ⌝ }
-    ensures { λ r. ⌜ Adjusted w (λ r. rowsUnshifted (r % 4)) end (now (rkeys .entry)) (now (rkeys .exit)) ⌝ }
+// A round key as it is held, in place: by so many inverse row shifts, and with the NOTs that the S-box leaves out.
+fn write_key(part: &mut [Word], times: usize)
+    requires { ⌜ (length (now part) ≡ 8) × (times < 4) ⌝ }
+    ensures { λ r. ⌜ Does w (all (λ k. add63 (rowsUnshifted times k))) (now (part .entry)) (now (part .exit)) ⌝ }
 {
-    for r in 1..end {
-        inv_shift_key(&mut rkeys[8 * r..8 * r + 8], r % 4);
-    }
+    inv_shift_key(part, times);
+    sub_bytes_nots_in(part);
 }
 
-// Accounts for the NOTs that the S-box leaves out, in round keys 1 to `end`, `end` not counted.
-fn not_keys(rkeys: &mut [Word], end: usize)
-    requires { ⌜ (1 ≤ end) × (8 * end ≤ length (now rkeys)) ⌝ }
-    ensures { λ r. ⌜ Adjusted w (λ r. add63) end (now (rkeys .entry)) (now (rkeys .exit)) ⌝ }
+// Adjusts round keys 1 to n to the fixsliced format: key r by r mod 4 inverse row shifts, the last by none.
+fn write_keys(rkeys: &mut [Word], n: usize)
+    requires { ⌜ (1 ≤ n) × (8 * n + 8 ≤ length (now rkeys)) ⌝ }
+    ensures { λ r. ⌜ Adjusted w (writeKey n) (n + 1) (now (rkeys .entry)) (now (rkeys .exit)) ⌝ }
 {
-    for r in 1..end {
-        sub_bytes_nots_in(&mut rkeys[8 * r..8 * r + 8]);
+    for r in 1..n {
+        write_key(&mut rkeys[8 * r..8 * r + 8], r % 4);
     }
+    sub_bytes_nots_in(&mut rkeys[8 * n..8 * n + 8]);
 }
 
 // The schedule of a key, by the key's length: 88 words for 16 bytes, 120 for 32.
@@ -119,10 +119,8 @@ pub fn key_schedule(key: &[u8], rkeys: &mut [Word])
     ensures { λ r. ⌜ now (rkeys .exit) ≡ scheduleOf w (keySize (length (now (key .entry))) .nk) (now (key .entry)) ⌝ }
 {
     let m = key.len() / 16;
-    let end = rkeys.len() / 8;
-    let last = end - 1;
+    let n = rkeys.len() / 8 - 1;
     load_key(rkeys, key, m);
     expand_keys(rkeys, m);
-    inv_shift_keys(rkeys, last);
-    not_keys(rkeys, end);
+    write_keys(rkeys, n);
 }

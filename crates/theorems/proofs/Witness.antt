@@ -9,9 +9,10 @@ use lib.Dec.{lit<}
 use lib.ListN.{length, getD, replicate, length-replicate}
 use Rattle.fips197.specs.Bytes.{Fit, Data}
 use Rattle.fips197.specs.Aes.{sixteen, keyExpansion, xtime, product, inverse, affine, invAffine, sbox, invSbox, subBytes, invSubBytes, shiftRows}
-use Rattle.fips197.specs.Aes.{invShiftRows, mixColumns, invMixColumns, addRoundKey, rounds, cipher, invRounds, invCipher}
+use Rattle.fips197.specs.Aes.{invShiftRows, mixColumns, invMixColumns, addRoundKey, cipher, invCipher}
 use Rattle.fips197.proofs.Blocks.{fit-nil, fit-test, fit-cons}
-use Rattle.fips197.proofs.Examples.{keyA1, roundKeysA1, expansion-A1, keyA3, roundKeysA3, expansion-A3}
+use Rattle.fips197.proofs.Quick.{quickCipher, quickInvCipher, cipher-quick, invCipher-quick}
+use Rattle.appendices.proofs.Examples.{keyA1, roundKeysA1, expansion-A1, keyA3, roundKeysA3, expansion-A3}
 use Rattle.lanes.specs.Layout.{Width, w32, w64, bits, slots}
 use Rattle.lanes.specs.Sizes.{keySize}
 use Rattle.lanes.specs.Schedule.{scheduleOf, eachBlock}
@@ -46,10 +47,6 @@ pub block-1 : (w : Width) (x : ℕ) → sixteen (batch w x) 1 ≡ zero-block
 unfolding batch
 block-1 w32 x = refl
 block-1 w64 x = refl
-
-pub slot-0 : (w : Width) → 0 < slots w
-slot-0 w32 = lit< tt
-slot-0 w64 = lit< tt
 
 pub slot-1 : (w : Width) → 1 < slots w
 slot-1 w32 = lit< tt
@@ -215,20 +212,20 @@ unfolding firstUnround invMixColumns
 first-unround-length ks x = refl
 
 pub cipher-one : getD (cipher roundKeysA1 one-block) 0 0 ≡ 0x7e
-unfolding roundKeysA1 cipher rounds addRoundKey mixColumns shiftRows subBytes sbox affine inverse product xtime
-cipher-one = refl
+unfolding roundKeysA1 quickCipher
+cipher-one = ap (λ (l : List ℕ). getD l 0 0) (cipher-quick roundKeysA1 one-block)
 
 pub cipher-zero : getD (cipher roundKeysA1 zero-block) 0 0 ≡ 0x7d
-unfolding roundKeysA1 cipher rounds addRoundKey mixColumns shiftRows subBytes sbox affine inverse product xtime
-cipher-zero = refl
+unfolding roundKeysA1 quickCipher
+cipher-zero = ap (λ (l : List ℕ). getD l 0 0) (cipher-quick roundKeysA1 zero-block)
 
 pub invCipher-one : getD (invCipher roundKeysA1 one-block) 0 0 ≡ 0x49
-unfolding roundKeysA1 invCipher invRounds addRoundKey invMixColumns invShiftRows invSubBytes invSbox invAffine inverse product xtime
-invCipher-one = refl
+unfolding roundKeysA1 quickInvCipher
+invCipher-one = ap (λ (l : List ℕ). getD l 0 0) (invCipher-quick roundKeysA1 one-block)
 
 pub invCipher-zero : getD (invCipher roundKeysA1 zero-block) 0 0 ≡ 0xad
-unfolding roundKeysA1 invCipher invRounds addRoundKey invMixColumns invShiftRows invSubBytes invSbox invAffine inverse product xtime
-invCipher-zero = refl
+unfolding roundKeysA1 quickInvCipher
+invCipher-zero = ap (λ (l : List ℕ). getD l 0 0) (invCipher-quick roundKeysA1 zero-block)
 
 pub round-one : getD (firstRound roundKeysA1 one-block) 0 0 ≡ 0xf4
 unfolding firstRound roundKeysA1 addRoundKey mixColumns shiftRows subBytes sbox affine inverse product xtime
@@ -243,5 +240,5 @@ unfolding firstUnround roundKeysA1 addRoundKey invMixColumns invShiftRows invSub
 unround-one = refl
 
 pub cipher-zero-A3 : getD (cipher roundKeysA3 zero-block) 0 0 ≡ 0xe5
-unfolding roundKeysA3 cipher rounds addRoundKey mixColumns shiftRows subBytes sbox affine inverse product xtime
-cipher-zero-A3 = refl
+unfolding roundKeysA3 quickCipher
+cipher-zero-A3 = ap (λ (l : List ℕ). getD l 0 0) (cipher-quick roundKeysA3 zero-block)

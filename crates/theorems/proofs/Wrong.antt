@@ -10,11 +10,12 @@ use lib.Dec.{lit<, lit≤}
 use lib.ListN.{length, getD, take, drop, replicate, getD-replicate, length-replicate}
 use lib.Seq.{getD-drop, getD-append-add, getD-take, length-take-le}
 use Rattle.fips197.specs.Aes.{sixteen, shiftRows, cipher, invCipher}
-use Rattle.fips197.proofs.Examples.{keyA1, roundKeysA1}
+use Rattle.appendices.proofs.Examples.{keyA1, roundKeysA1}
 use Rattle.lanes.specs.Layout.{Width, w32, w64, slots, slot}
 use Rattle.lanes.specs.Sizes.{keySize, scheduleSize}
 use Rattle.lanes.specs.Schedule.{wordsAt, stored, add63, rowsShifted, readKey, reading, scheduleOf, eachBlock}
 use Rattle.lanes.proofs.EachBlock.{block-of}
+use Rattle.lanes.proofs.EachBlock.{some-slot}
 use Rattle.schedule.proofs.Reading.{schedule-length, schedule-one}
 use Rattle.cipher.proofs.Batches.{Way, forth, backwards, keys}
 use Rattle.outcome.specs.Outcome.{answers}
@@ -23,7 +24,7 @@ use Rattle.calls.specs.Calls.{keyWordsOf, scheduleWords, roundsOf, keysOf, keys
 use Rattle.theorems.proofs.Call.{Call, Can, Refuted, can-make, refuses-everything, writes-another, writes-the-same, writes-by-buffer}
 use Rattle.theorems.proofs.Calls.{CryptArgs, DoorArgs, expandCall, cryptCall, encryptCall, decryptCall, checkCall, doorCall}
 use Rattle.theorems.proofs.Theorems.{crypt-is, door-is, keys-of, roundKeys}
-use Rattle.theorems.proofs.Witness.{zero-block, one-block, batch, batch-data, block-0, block-1, slot-0, slot-1, first, block-at, Sample, A1, A3, ones}
+use Rattle.theorems.proofs.Witness.{zero-block, one-block, batch, batch-data, block-0, block-1, slot-1, first, block-at, Sample, A1, A3, ones}
 use Rattle.theorems.proofs.Witness.{words-A1, words-ones, ones-key, room, can-expand, words, keys-are, crypt-args, can-crypt, can-check, door-args}
 use Rattle.theorems.proofs.Witness.{can-door, firstRound, firstUnround, first-round-length, first-unround-length, cipher-one, cipher-zero}
 use Rattle.theorems.proofs.Witness.{invCipher-one, invCipher-zero, round-one, round-zero, unround-one, cipher-zero-A3}
@@ -56,10 +57,10 @@ module _ {C : Call} (k : BlockCall C) where
 
   -- what is left begins with v for the test batch, and with u for zeros; block 1 begins with u
   begins : first (C .result (k .args 1)) 0 ≡ k .v
-  begins = ap (λ (l : List ℕ). getD l 0 0) (k .each 1 0 (lit< tt) (slot-0 (k .w)) ∙ ap (k .c) (block-0 (k .w) 1)) ∙ k .on-one
+  begins = ap (λ (l : List ℕ). getD l 0 0) (k .each 1 0 (lit< tt) (some-slot (k .w)) ∙ ap (k .c) (block-0 (k .w) 1)) ∙ k .on-one
 
   begins-0 : first (C .result (k .args 0)) 0 ≡ k .u
-  begins-0 = ap (λ (l : List ℕ). getD l 0 0) (k .each 0 0 (lit< tt) (slot-0 (k .w)) ∙ ap (k .c) (block-0 (k .w) 0)) ∙ k .on-zero
+  begins-0 = ap (λ (l : List ℕ). getD l 0 0) (k .each 0 0 (lit< tt) (some-slot (k .w)) ∙ ap (k .c) (block-0 (k .w) 0)) ∙ k .on-zero
 
   second : first (C .result (k .args 1)) 1 ≡ k .u
   second = ap (λ (l : List ℕ). getD l 0 0) (k .each 1 1 (lit< tt) (slot-1 (k .w)) ∙ ap (k .c) (block-1 (k .w) 1)) ∙ k .on-zero
@@ -146,7 +147,7 @@ decryption = record {
 }
 
 mod-0 : (w : Width) → 0 % slots w ≡ 0
-mod-0 w = mod-eq-of-lt (slot-0 w)
+mod-0 w = mod-eq-of-lt (some-slot w)
 
 -- ---- encrypt and decrypt, at each width
 -- the first round of every block, and the rest skipped
@@ -186,18 +187,18 @@ module _ (d : Direction) (w : Width) where
   unfolding cryptBlocks
   crypt-first-round = does-another cryptBlocks (firstRoundOnly (d .first-step) w) (d .z)
       (ap (λ (l : List ℕ). getD l 0 0)
-      (block-at w (λ b. d .first-step (keysIn w (words w A1) b)) (λ b x. d .step-length _ x) (batch w 1) 0 (slot-0 w)
-      ∙ ap₂ (d .first-step) (ap (keysIn w (words w A1)) (mod-0 w) ∙ keys-are w A1 0 (slot-0 w)) (block-0 w 1))
+      (block-at w (λ b. d .first-step (keysIn w (words w A1) b)) (λ b x. d .step-length _ x) (batch w 1) 0 (some-slot w)
+      ∙ ap₂ (d .first-step) (ap (keysIn w (words w A1)) (mod-0 w) ∙ keys-are w A1 0 (some-slot w)) (block-0 w 1))
       ∙ d .step-one) (d .not-step)
 
   crypt-slot-0 : Refuted (cryptCall go w) (λ a o. answers 0 (slot0Everywhere go w a))
   unfolding cryptBlocks
   crypt-slot-0 = fills cryptBlocks (slot0Everywhere go w)
       (block-at w (λ b x. go (keysIn w (words w A1) 0) (sixteen (batch w 1) 0)) (λ b x. long) (batch w 1) 1 (slot-1 w)
-      ∙ ap₂ go (keys-are w A1 0 (slot-0 w)) (block-0 w 1))
+      ∙ ap₂ go (keys-are w A1 0 (some-slot w)) (block-0 w 1))
     where
       long : length (go (keysIn w (words w A1) 0) (sixteen (batch w 1) 0)) ≡ 16
-      long = d .way .go-block (keys (d .way) w (roundsOf (words w A1)) (keysOf (words w A1)) 0) (block-of (batch-data w 1 (lit< tt)) 0 (slot-0 w)) .long
+      long = d .way .go-block (keys (d .way) w (roundsOf (words w A1)) (keysOf (words w A1)) 0) (block-of (batch-data w 1 (lit< tt)) 0 (some-slot w)) .long
 
 module _ (w : Width) where
   pub encrypt-refuses-everything : RefusesAll (encryptCall w)
@@ -281,7 +282,7 @@ module _ (n : ℕ) (le : n ≤ 1) (d : Direction) (is : directed n ≡ d .way .g
   unfolding doorBlocks
   door-first-round = does-another doorBlocks (doorFirstRoundOnly (d .first-step)) (d .z)
       (ap (λ (l : List ℕ). getD l 0 0)
-      (block-at w64 (λ b. d .first-step (roundKeys (A1 .key))) (λ b x. d .step-length _ x) (batch w64 1) 0 (slot-0 w64)
+      (block-at w64 (λ b. d .first-step (roundKeys (A1 .key))) (λ b x. d .step-length _ x) (batch w64 1) 0 (some-slot w64)
       ∙ ap₂ (d .first-step) (A1 .expansion) (block-0 w64 1))
       ∙ d .step-one) (d .not-step)
 
@@ -292,7 +293,7 @@ module _ (n : ℕ) (le : n ≤ 1) (d : Direction) (is : directed n ≡ d .way .g
       ∙ ap₂ (d .way .go) (A1 .expansion) (block-0 w64 1))
     where
       long : length (d .way .go (roundKeys (A1 .key)) (sixteen (batch w64 1) 0)) ≡ 16
-      long = d .way .go-block (keys-of (record { right-length = A1 .keyed; bytes = A1 .fits })) (block-of (batch-data w64 1 (lit< tt)) 0 (slot-0 w64)) .long
+      long = d .way .go-block (keys-of (record { right-length = A1 .keyed; bytes = A1 .fits })) (block-of (batch-data w64 1 (lit< tt)) 0 (some-slot w64)) .long
 
 door-0 : BlockCall (doorCall 0)
 unfolding encryption
@@ -443,7 +444,7 @@ module _ (w : Width) where
       let z : _≡_ {A = ℕ} 0x63 0xd0 =
       sym (cleared w)
       ∙ ap (λ (l : List ℕ). getD (getD (keysIn w l 0) 10 []) 0 0) (sym copied ∙ e)
-      ∙ ap (λ (ks : List (List ℕ)). getD (getD ks 10 []) 0 0) (keys-are w A1 0 (slot-0 w)) ∙ last-key in
+      ∙ ap (λ (ks : List (List ℕ)). getD (getD ks 10 []) 0 0) (keys-are w A1 0 (some-slot w)) ∙ last-key in
       omega arith)
     where
       copied : A1 .key ++ replicate (length (room w A1 0) - length (A1 .key)) 0 ≡ keyA1 ++ replicate 72 0
@@ -464,7 +465,7 @@ module _ (w : Width) where
   unfolding checkValue
   check-begins k =
       getD-take 3 (cipher (keysIn w (words w k) 0) zero-block) 0 0 (lit< tt)
-      ∙ ap (λ (ks : List (List ℕ)). getD (cipher ks zero-block) 0 0) (keys-are w k 0 (slot-0 w))
+      ∙ ap (λ (ks : List (List ℕ)). getD (cipher ks zero-block) 0 0) (keys-are w k 0 (some-slot w))
 
   check-A1 : getD (checkValue w (words w A1)) 0 0 ≡ 0x7d
   unfolding A1
@@ -493,5 +494,5 @@ module _ (w : Width) where
       begins-round : getD (take 3 (firstRound (keysIn w (words w A1) 0) zero-block)) 0 0 ≡ 0xdc
       begins-round =
           getD-take 3 (firstRound (keysIn w (words w A1) 0) zero-block) 0 0 (lit< tt)
-          ∙ ap (λ (ks : List (List ℕ)). getD (firstRound ks zero-block) 0 0) (keys-are w A1 0 (slot-0 w))
+          ∙ ap (λ (ks : List (List ℕ)). getD (firstRound ks zero-block) 0 0) (keys-are w A1 0 (some-slot w))
           ∙ round-zero

@@ -8,7 +8,7 @@ ghost use mathlib.Core.Path.{_≡_};
 ghost use lib.ListN.{length};
 
 // The bytes of a block into a part of a buffer.
-fn copy16(from: [u8; 16], part: &mut [u8])
+pub fn copy16(from: [u8; 16], part: &mut [u8])
     requires { ⌜ length (now part) ≡ 16 ⌝ }
     ensures { λ r. ⌜ now (part .exit) ≡ from ⌝ }
 {

@@ -20,14 +20,14 @@ zeros-is c = record { long = search needs; bytes = byte-fit _ (λ i. search need
 slice-aggregate-encrypt : tie.Need-slice-aggregate-encrypt
 slice-aggregate-encrypt c =
     let call = c .before .before in
-    sym (front-length w (call .store16 .ensures) (block-is (call .before .before)) (zeros-is (call .before .before)))
+    sym (front-length w (call .copy16 .ensures) (block-is (call .before .before)) (zeros-is (call .before .before)))
 
 encrypt-requires : tie.Need-encrypt-requires
 encrypt-requires c κs =
     let call = c .before .before .before in
     record {
       schedule = call .before .before .before .before .before .pre;
-      input = front-length w (call .store16 .ensures) (block-is (call .before .before)) (zeros-is (call .before .before));
+      input = front-length w (call .copy16 .ensures) (block-is (call .before .before)) (zeros-is (call .before .before));
       output = search needs;
     }
 
@@ -36,7 +36,7 @@ returns c =
     let call = c .before .before .before .before in
     let store = call .before .before .before .before in
     c .load16 .ensures
-    ∙ slot-0 w (store .store16 .ensures) (block-is (store .before .before)) (zeros-is (store .before .before)) _ _ (call .encrypt .ensures)
+    ∙ slot-0 w (store .copy16 .ensures) (block-is (store .before .before)) (zeros-is (store .before .before)) _ _ (call .encrypt .ensures)
 
 pub encrypt-block-spec : {M : Type 1} → statement M
 encrypt-block-spec =
@@ -44,10 +44,10 @@ encrypt-block-spec =
     (tie.spec
     (λ c κs. search needs)  -- zeros-requires
     (λ c κs. search needs)  -- zeros-requires-2
-    (λ c. search needs)  -- sub-store16
+    (λ c. search needs)  -- sub-copy16
     (λ c. search needs)  -- part-input-start
     (λ c. search needs)  -- part-input-end
-    (λ c κs. search needs)  -- store16-requires
+    (λ c κs. search needs)  -- copy16-requires
     slice-aggregate-encrypt
     (λ c. search needs)  -- slice-aggregate-encrypt-2
     encrypt-requires

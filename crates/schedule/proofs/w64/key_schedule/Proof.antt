@@ -18,8 +18,8 @@ use Rattle.schedule.proofs.KeySizes.{KeyBlocks, key-blocks}
 sizes : (c : tie.Start) → KeyBlocks (length (c .args .key .now)) (length (c .args .rkeys .now))
 sizes c = key-blocks _ _ (c .pre)
 
-sub-last : tie.Need-sub-last
-sub-last c = let words = sizes (c .before .before) .blocks .words in omega arith
+sub-n : tie.Need-sub-n
+sub-n c = let words = sizes (c .before .before) .blocks .words in omega arith
 
 load-key-requires : tie.Need-load-key-requires
 load-key-requires c κs =
@@ -33,36 +33,23 @@ expand-keys-requires c κs =
     let blocks = sizes (load .before .before .before .before) .blocks in
     record { some = blocks .some; few = blocks .few; words = load .load-key .kept .0 ∙ blocks .words }
 
--- the schedule's length after the expansion, and after the row shifts
+-- the schedule's length after the expansion
 expanded : (c : tie.After-expand-keys)
     → (let start = c .before .before .before .before .before .before .before .before in
     length (c .expand-keys .last .0) ≡ length (start .args .rkeys .now))
 expanded c = c .expand-keys .kept .0 ∙ c .before .before .before .before .load-key .kept .0
 
-shifted : (c : tie.After-inv-shift-keys)
-    → (let start = c .before .before .before .before .before .before .before .before .before .before .before .before in
-    length (c .inv-shift-keys .last .0) ≡ length (start .args .rkeys .now))
-shifted c = c .inv-shift-keys .kept .0 ∙ expanded (c .before .before .before .before)
-
-inv-shift-keys-requires : tie.Need-inv-shift-keys-requires
-inv-shift-keys-requires c κs =
+write-keys-requires : tie.Need-write-keys-requires
+write-keys-requires c κs =
     let call = c .before .before .before in
     let words = sizes (call .before .before .before .before .before .before .before .before) .blocks .words in
     let long = expanded call in
     (omega arith, omega arith)
 
-not-keys-requires : tie.Need-not-keys-requires
-not-keys-requires c κs =
-    let call = c .before .before .before in
-    let words = sizes (call .before .before .before .before .before .before .before .before .before .before .before .before) .blocks .words in
-    let long = shifted call in
-    (omega arith, omega arith)
-
 returns : tie.Need-returns
 returns c =
-    let nots = c .before .before in
-    let shifts = nots .before .before .before .before in
-    let expand = shifts .before .before .before .before in
+    let write = c .before .before in
+    let expand = write .before .before .before .before in
     let load = expand .before .before .before .before in
     let start = load .before .before .before .before in
     let size = sizes start in
@@ -72,22 +59,20 @@ returns c =
     let m = length key / 16 in
     let long : length key ≡ 4 * (4 * m) = size .bytes ∙ omega arith in
     let rounds : length (start .args .rkeys .now) / 8 - 1 ≡ roundsFor (4 * m) = omega arith in
-    let ends : length (start .args .rkeys .now) / 8 ≡ length (start .args .rkeys .now) / 8 - 1 + 1 = omega arith in
     rw (size .nk-is)
     (whole w (4 * m) key (omega arith) long (byte-fit key (load .before .before .before .shared-slice-known .given))
-    rounds ends (expanded expand ∙ omega arith)
+    rounds (expanded expand ∙ omega arith)
     (expand .expand-keys .ensures .more key long (loaded-keys w m some long (load .load-key .ensures)))
-    (shifts .inv-shift-keys .ensures) (nots .not-keys .ensures)
-    (nots .not-keys .kept .0 ∙ shifts .inv-shift-keys .kept .0) (slice-fit w _ (c .slice-known5 .given)))
+    (write .write-keys .ensures)
+    (write .write-keys .kept .0) (slice-fit w _ (c .slice-known4 .given)))
 
 pub key-schedule-spec : {M : Type 1} → statement M
 key-schedule-spec =
     tie.close
     (tie.spec
-    sub-last
+    sub-n
     load-key-requires
     expand-keys-requires
-    inv-shift-keys-requires
-    not-keys-requires
+    write-keys-requires
     (λ c. search needs)  -- same-length
     returns)
