@@ -89,6 +89,9 @@ fails 'shows nothing' STUB_LOG="$at/w64/g/Proof.antt:1:1: error: \`returns\`: th
 fails 'shows nothing' STUB_LOG='fn one::w64::f: not proved; it calls `one::w64::g`, which is not proved'
 fails 'shows nothing' STUB_LOG='logic=not-proved'
 fails 'shows nothing' STUB_UNTRIED=1
+echo 'refused: w64::f returns' >"$tree/crates/one/must-fail/edit.edit"
+passes GATE_ALLOW_SKIP=
+fails 'shows nothing' STUB_LOG="$at/w64/f/Proof.antt:1:1: error: \`loop-holds\`: they differ"
 echo 'refused: Laws stop' >"$tree/crates/one/must-fail/edit.edit"
 passes STUB_LOG="$at/Laws.antt:1:1: error: \`stop\`: they differ"
 fails 'shows nothing' STUB_LOG="$at/Laws.antt:1:1: error: \`pass\`: they differ"

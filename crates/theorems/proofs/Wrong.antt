@@ -14,8 +14,7 @@ use Rattle.appendices.proofs.Examples.{keyA1, roundKeysA1}
 use Rattle.lanes.specs.Layout.{Width, w32, w64, slots, slot}
 use Rattle.lanes.specs.Sizes.{keySize, scheduleSize}
 use Rattle.lanes.specs.Schedule.{wordsAt, stored, add63, rowsShifted, readKey, reading, scheduleOf, eachBlock}
-use Rattle.lanes.proofs.EachBlock.{block-of}
-use Rattle.lanes.proofs.EachBlock.{some-slot}
+use Rattle.lanes.proofs.EachBlock.{some-slot, block-of}
 use Rattle.schedule.proofs.Reading.{schedule-length, schedule-one}
 use Rattle.cipher.proofs.Batches.{Way, forth, backwards, keys}
 use Rattle.outcome.specs.Outcome.{answers}
