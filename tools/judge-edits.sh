@@ -1,8 +1,9 @@
 #!/bin/sh
 # After `rt ci`, says of each fault in a must-fail edit why the prover refused it. A check costs the same for one fault as for ten, so an edit has
-# several. `refused: w64::rounds` names the function with the fault, `refused: w64::rounds returns` one need of it (so a function can have two faults),
-# `refused: Laws stop` the law `stop` of proofs/Laws.antt, and in the log a fact of its own must have failed. What was refused only since it rests on another refusal does not count; nor does an edit that made a proof
-# unfit for the code (a need that is gone or new, a name that is not there, a text that does not parse), nor one that was not tried.
+# several. `refused: w64::rounds` names the function with the fault, `refused: w64::rounds returns` one need of it (for a function with two faults),
+# `refused: Laws stop` the law `stop` of proofs/Laws.antt, and in the log a fact of its own must have failed. What was refused only since it rests
+# on another refusal does not count; nor does an edit that made a proof unfit for the code (a need that is gone or new, a name that is not there,
+# a text that does not parse), nor one that was not tried.
 set -u
 cd "$(dirname "$0")/.." || exit 1
 # shellcheck disable=SC2016 # the backquotes are the prover's
