@@ -17,7 +17,7 @@ MARKS = {".rt": "// ---- the same at both widths", ".antt": "-- ---- the same at
 
 # A file, or a folder with all that is below it, by its 32-bit side; and why the two sides differ.
 EXCEPTIONS = {
-    "crates/word/src/blocks32.rt": "a column is a word of 32 bits, two are one of 64: the bytes between blocks and words have other places",
+    "crates/word/src/blocks32.rt": "a column is a word of 32 bits; half a block is one of 64, and the two halves are swapped",
     "crates/word/proofs/blocks32": "the proofs of that",
     "crates/uses/proofs/w32": "the exported calls have their width in their names, and a proof names a call's facts by the call",
     "crates/hex/src/w32.rt": "a number of 64 bits is a word as it stands; a word of 32 bits is cut from one and widened again",

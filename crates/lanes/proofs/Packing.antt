@@ -16,7 +16,7 @@ use Rattle.fips197.proofs.Blocks.{reads, reads-part, reads-all, block-is, fit-a
 use Rattle.lanes.specs.Layout.{Width, w32, w64, bits, slots, rowWidth, quarterRow, place, lane, slot, laneByte, pack, eachSlot, join}
 use Rattle.lanes.specs.Schedule.{wordsAt, stored}
 use Rattle.lanes.specs.Leaves.{Packs, unpacked}
-use Rattle.lanes.specs.Programs.{words, on8, at, swaps1, swaps2, swaps4, swapsProgram, loadProgram, broadcastProgram, storeProgram}
+use Rattle.lanes.specs.Programs.{words, on8, at, upper, lower, swaps1, swaps2, swaps4, swapsProgram, loadProgram, broadcastProgram, storeProgram}
 use Rattle.lanes.proofs.Check.{narrow, relatedWords, gatherR, slotR, law-of}
 
 -- ---- bitslice
@@ -54,6 +54,11 @@ swaps-calls w t p q r =
     r
     ∙ ap (λ (l : List ℕ). on8 (swaps4 (words w) w) (λ p. getD l p 0))
     (q ∙ ap (λ (l : List ℕ). on8 (swaps2 (words w) w) (λ p. getD l p 0)) p)
+
+-- delta_swap_2, where the words that it takes are known by equations
+pub swap-after : (w : Width) (n m : ℕ) {a b x y a′ b′ : ℕ} → (a ≡ a′) × (b ≡ b′)
+    → (x ≡ upper (words w) w n m a b) × (y ≡ lower (words w) w n m a b) → (x ≡ upper (words w) w n m a′ b′) × (y ≡ lower (words w) w n m a′ b′)
+swap-after w n m (p, q) (e, f) = (e ∙ ap₂ (upper (words w) w n m) p q, f ∙ ap₂ (lower (words w) w n m) p q)
 
 -- bitslice, where the words before the swaps are known by an equation
 pub packs : (w : Width) {l t r : List ℕ} → Fit 8 l → length l ≡ 16 * slots w → t ≡ loadProgram (words w) w (λ i. getD l i 0)

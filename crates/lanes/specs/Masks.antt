@@ -25,3 +25,7 @@ uniformRow w x = packRows w x x x x
 -- byte_repeat: a byte to every byte of a word
 abbrev pub byteRepeat : Width → ℕ → ℕ
 byteRepeat w x = x * ((2 ^ bits w - 1) / 255)
+
+-- not the Rust's: the lower n of every 2n bits of a word, for the swaps that read_reordered became
+abbrev pub lowHalves : Width → ℕ → ℕ
+lowHalves w n = (2 ^ bits w - 1) / (2 ^ n + 1)

@@ -6,7 +6,7 @@ use lib.ListN.{getD}
 use lib.Bits.{bitXor, bitAnd, bitOr}
 use Rattle.fips197.specs.Aes.{range}
 use Rattle.lanes.specs.Layout.{Width, w32, w64, bits, slots, rowWidth, quarterRow}
-use Rattle.lanes.specs.Masks.{packRows, uniformRow, byteRepeat}
+use Rattle.lanes.specs.Masks.{packRows, uniformRow, byteRepeat, lowHalves}
 
 -- what a linear program does with words: masks, shifts, remainders and the factor of a bit are constants
 pub record Ops (A : Type 0) : Type 0 where
@@ -202,6 +202,10 @@ module _ {A : Type 0} (o : Ops A) (w : Width) where
       let m = byteRepeat w 0x0f in
       lower 4 m a4 a0 ∷ lower 4 m a5 a1 ∷ lower 4 m a6 a2 ∷ lower 4 m a7 a3 ∷ upper 4 m a4 a0 ∷ upper 4 m a5 a1 ∷ upper 4 m a6 a2 ∷ upper 4 m a7 a3 ∷ []
 
+  -- at 64 bits, between the two words of a block, the lower first: delta_swap_2 by n bits
+  abbrev pub swapPair : ℕ → List A → List A
+  swapPair n l = lower n (lowHalves w n) (at l 1) (at l 0) ∷ upper n (lowHalves w n) (at l 1) (at l 0) ∷ []
+
   -- bitslice_swaps
   abbrev pub swapsProgram : (ℕ → A) → List A
   swapsProgram a =
@@ -209,30 +213,43 @@ module _ {A : Type 0} (o : Ops A) (w : Width) where
       let m = on8 swaps2 (λ p. getD l p (a 0)) in
       on8 swaps4 (λ p. getD m p (a 0))
 
--- bytes to a word: little-endian at 32 bits, read_reordered at 64 bits, where bytes 0 to 3 and 8 to 11 go to one word
-abbrev pub loadWord : {A : Type 0} → Ops A → Width → (ℕ → A) → ℕ → A
-loadWord o w32 a i = o .or (o .or (o .or (a i) (o .shl (a (i + 1)) 8)) (o .shl (a (i + 2)) 16)) (o .shl (a (i + 3)) 24)
-loadWord o w64 a i =
-    o .or (o .or (o .or (o .or (o .or (o .or (o .or (a i) (o .shl (a (i + 1)) 0x10)) (o .shl (a (i + 2)) 0x20)) (o .shl (a (i + 3)) 0x30))
-    (o .shl (a (i + 8)) 0x08)) (o .shl (a (i + 9)) 0x18)) (o .shl (a (i + 10)) 0x28)) (o .shl (a (i + 11)) 0x38)
+-- bytes to a word, little-endian: the byte at place i and the n after it
+abbrev pub leWord : {A : Type 0} → Ops A → (ℕ → A) → ℕ → ℕ → A
+leWord o a i zero = a i
+leWord o a i (suc n) = o .or (leWord o a i n) (o .shl (a (i + suc n)) (8 * suc n))
 
--- the eight words before the swaps: word j is read at column j div slots of block j mod slots
+-- as many as a word has
+abbrev pub loadWord : {A : Type 0} → Ops A → Width → (ℕ → A) → ℕ → A
+loadWord o w a i = leWord o a i (bits w / 8 - 1)
+
+-- word c of the block that begins at place i: a column at 32 bits; at 64 bits the columns c and c + 2, by swaps between the block's halves
+abbrev pub blockWord : {A : Type 0} → Ops A → Width → (ℕ → A) → ℕ → ℕ → A
+blockWord o w32 a i c = loadWord o w32 a (i + 4 * c)
+blockWord o w64 a i c =
+    let halves = loadWord o w64 a i ∷ loadWord o w64 a (i + 8) ∷ [] in
+    at o w64 (swapPair o w64 32 (swapPair o w64 16 (swapPair o w64 8 halves))) c
+
+-- the eight words before the swaps: word j is word j div slots of block j mod slots
 abbrev pub loadProgram : {A : Type 0} → Ops A → Width → (ℕ → A) → List A
-loadProgram o w a = each8 (λ j. loadWord o w a (16 * (j % slots w) + 4 * (j / slots w))) (λ p. p)
+loadProgram o w a = each8 (λ j. blockWord o w a (16 * (j % slots w)) (j / slots w)) (λ p. p)
 
 -- the same where every slot has the same block
 abbrev pub broadcastProgram : {A : Type 0} → Ops A → Width → (ℕ → A) → List A
-broadcastProgram o w a = each8 (λ j. loadWord o w a (4 * (j / slots w))) (λ p. p)
+broadcastProgram o w a = each8 (λ j. blockWord o w a 0 (j / slots w)) (λ p. p)
 
 -- the byte of a word at a bit
 abbrev pub byteAt : {A : Type 0} → Ops A → A → ℕ → A
 byteAt o x zero = o .low x 8
 byteAt o x (suc n) = o .low (o .shr x (suc n)) 8
 
--- the sixteen bytes of a block from its own words after the swaps, four or two: write_reordered at 64 bits
+-- sixteen bytes of words, little-endian
+abbrev pub leBytes : {A : Type 0} → Ops A → Width → (ℕ → A) → List A
+leBytes o w a = map (λ n. byteAt o (a (n / (bits w / 8))) (8 * (n % (bits w / 8)))) (range 0 16)
+
+-- the sixteen bytes of a block from its own words after the swaps, four columns or, at 64 bits, two words that are swapped back to halves
 abbrev pub blockBytes : {A : Type 0} → Ops A → Width → (ℕ → A) → List A
-blockBytes o w32 a = map (λ n. byteAt o (a (n / 4)) (8 * (n % 4))) (range 0 16)
-blockBytes o w64 a = map (λ n. byteAt o (a (n / 4 % 2)) (16 * (n % 4) + 8 * (n / 8))) (range 0 16)
+blockBytes o w32 a = leBytes o w32 a
+blockBytes o w64 a = leBytes o w64 (at o w64 (swapPair o w64 8 (swapPair o w64 16 (swapPair o w64 32 (a 0 ∷ a 1 ∷ [])))))
 
 -- those of slot b
 abbrev pub storeProgram : {A : Type 0} → Ops A → Width → (ℕ → A) → ℕ → List A

@@ -1,7 +1,11 @@
 // Four blocks in eight words of 64 bits. Bitslicing is a bit index manipulation: each of 512 bits has an index of nine bits
 // ([b]lock, [c]olumn, [r]ow, [p]osition), a block being a matrix of bytes, column after column.
 //     in blocks  b1 b0 c1 c0 r1 r0 p2 p1 p0
-//     in words   p2 p1 p0 r1 r0 c1 c0 b1 b0
+//                b1 b0 c0 r1 r0 c1 p2 p1 p0    load_block: bit index swaps 6 <-> 3, 6 <-> 4, 6 <-> 5
+//                c0 b1 b0 r1 r0 c1 p2 p1 p0    load_blocks: the order of the words
+//                c0 b1 p0 r1 r0 c1 p2 p1 b0    swaps_1: 6 <-> 0
+//                c0 p1 p0 r1 r0 c1 p2 b1 b0    swaps_2: 7 <-> 1
+//     in words   p2 p1 p0 r1 r0 c1 c0 b1 b0    swaps_4: 8 <-> 2
 ghost use Rattle.lanes.specs.Layout.{w64 as w};
 use super::blocks64::load_blocks;
 use super::blocks64::load_repeated;

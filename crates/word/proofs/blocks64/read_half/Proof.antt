@@ -2,14 +2,14 @@
 use borrow.Author.Needs.{needs}
 use mathlib.Core.Path.{refl}
 use mir.Facts.{fits-widen}
-use Rattle.word.proofs.blocks64.read_reordered.Statement.{statement}
-use Rattle.word.proofs.blocks64.read_reordered.Tie as tie
+use Rattle.word.proofs.blocks64.read_half.Statement.{statement}
+use Rattle.word.proofs.blocks64.read_half.Tie as tie
 
 returns : tie.Need-returns
 returns c = refl
 
-pub read-reordered-spec : {M : Type 1} → statement M
-read-reordered-spec =
+pub read-half-spec : {M : Type 1} → statement M
+read-half-spec =
     tie.close
     (tie.spec
     -- for each byte: its place, which is within the input, and that it fits a word
