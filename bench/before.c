@@ -69,29 +69,64 @@ static double now(void)
     return 1e9 * (double)t.tv_sec + (double)t.tv_nsec;
 }
 
-/* One row: both sides must leave the same bytes at `left`; then they take turns, and each begins every second turn. */
-static void row(const char *name, long runs, void (*run)(const struct side *), const void *left, size_t size, int count)
+/* What is timed: a run writes `left`; key_len is 0 where no key is needed. */
+static struct row {
+    const char *name;
+    size_t key_len;
+    void (*run)(const struct side *);
+    void *left;
+    size_t size;
+    int count;
+    double best[2];
+} rows[] = {
+    {"pack, a block", 0, pack, states, sizeof states, BLOCKS, {0, 0}},
+    {"unpack, a block", 0, unpack, output, sizeof output, BLOCKS, {0, 0}},
+    {"AES-128 encrypt, a block", 16, encrypt, output, sizeof output, BLOCKS, {0, 0}},
+    {"AES-128 decrypt, a block", 16, decrypt, output, sizeof output, BLOCKS, {0, 0}},
+    {"AES-256 encrypt, a block", 32, encrypt, output, sizeof output, BLOCKS, {0, 0}},
+    {"AES-256 decrypt, a block", 32, decrypt, output, sizeof output, BLOCKS, {0, 0}},
+    {"AES-128 expand, a key", 16, expand, schedule, 8 * 88, KEYS, {0, 0}},
+    {"AES-256 expand, a key", 32, expand, schedule, 8 * 120, KEYS, {0, 0}},
+};
+enum { ROWS = sizeof rows / sizeof rows[0], ROUNDS = 10 };
+
+/* The key of a row, expanded. */
+static void set(const struct row *row)
+{
+    key_len = row->key_len;
+    words = key_len == 16 ? 88 : 120;
+    if (key_len != 0)
+        wrong |= sides[0].expand(keys, key_len, schedule, words);
+}
+
+/* Both sides must write the same bytes over zeros. */
+static void compare(struct row *row)
 {
     static uint8_t answers[2][BYTES];
-    double best[2] = {1e18, 1e18};
     for (int n = 0; n < 2; n++) {
-        run(&sides[n]);
-        memcpy(answers[n], left, size);
+        set(row);
+        memset(row->left, 0, row->size);
+        row->run(&sides[n]);
+        memcpy(answers[n], row->left, row->size);
     }
-    if (wrong != 0 || memcmp(answers[0], answers[1], size) != 0) {
-        fprintf(stderr, "FAILED: %s, the two differ\n", name);
+    if (wrong != 0 || memcmp(answers[0], answers[1], row->size) != 0) {
+        fprintf(stderr, "FAILED: %s, the two differ\n", row->name);
         exit(1);
     }
+}
+
+/* Some runs of a row in turns; each side begins every second time. */
+static void turns(struct row *row, long runs)
+{
+    set(row);
     for (long r = 0; r < 2 * runs; r++) {
         int n = (int)((r ^ (r >> 1)) & 1);
         double start = now();
-        run(&sides[n]);
+        row->run(&sides[n]);
         double took = now() - start;
-        if (took < best[n])
-            best[n] = took;
+        if (row->best[n] == 0 || took < row->best[n])
+            row->best[n] = took;
     }
-    printf("| %s | %.2f | %.2f | %.3f |\n", name, best[0] / count, best[1] / count, best[1] / best[0]);
-    fflush(stdout);
 }
 
 int main(int argc, char **argv)
@@ -104,18 +139,16 @@ int main(int argc, char **argv)
         if (i < sizeof keys)
             keys[i] = (uint8_t)(x >> 48);
     }
+    for (int i = 0; i < ROWS; i++)
+        compare(&rows[i]);
+    /* all rows again and again, so that what disturbs the machine for a while disturbs no row's every run */
+    for (int round = 0; round < ROUNDS; round++)
+        for (int i = 0; i < ROWS; i++)
+            turns(&rows[i], (runs + ROUNDS - 1) / ROUNDS);
     printf("| | before | now | now/before |\n|---|---|---|---|\n");
-    row("pack, a block", runs, pack, states, sizeof states, BLOCKS);
-    row("unpack, a block", runs, unpack, output, sizeof output, BLOCKS);
-    for (key_len = 16; key_len <= 32; key_len += 16) {
-        char name[40];
-        words = key_len == 16 ? 88 : 120;
-        snprintf(name, sizeof name, "AES-%zu expand, a key", 8 * key_len);
-        row(name, runs, expand, schedule, 8 * words, KEYS);
-        snprintf(name, sizeof name, "AES-%zu encrypt, a block", 8 * key_len);
-        row(name, runs, encrypt, output, sizeof output, BLOCKS);
-        snprintf(name, sizeof name, "AES-%zu decrypt, a block", 8 * key_len);
-        row(name, runs, decrypt, output, sizeof output, BLOCKS);
+    for (int i = 0; i < ROWS; i++) {
+        const struct row *r = &rows[i];
+        printf("| %s | %.2f | %.2f | %.3f |\n", r->name, r->best[0] / r->count, r->best[1] / r->count, r->best[1] / r->best[0]);
     }
     return 0;
 }
