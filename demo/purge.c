@@ -1,5 +1,6 @@
 /* The main job in small: four record headers of a sample archive, sealed here under a sample month key, are decrypted through the door
-   four at a time, and each hold-until date is read. Then one call is refused. It expands no key by hand. */
+   four at a time, and each hold-until date is read. Then one call is refused for a key of a wrong length, and one for a key that was
+   destroyed, by zeros written over it. It expands no key by hand. */
 #include "../include/locker_aes.h"
 #include <stdio.h>
 #include <string.h>
@@ -40,5 +41,11 @@ int main(void) {
     answer = locker_aes(LOCKER_AES_DECRYPT, key, 23, sealed, sizeof sealed, opened, sizeof opened);
     int kept = memcmp(opened, before, sizeof before) == 0;
     printf("a 23-byte key: answer %u, output %s\n", answer, kept ? "left as it was" : "CHANGED");
-    return answer == LOCKER_AES_BAD_KEY_LENGTH && kept ? 0 : 1;
+    if (answer != LOCKER_AES_BAD_KEY_LENGTH || !kept) return 1;
+
+    memset(key, 0, sizeof key);
+    answer = locker_aes(LOCKER_AES_ENCRYPT, key, sizeof key, headers, sizeof headers, opened, sizeof opened);
+    kept = memcmp(opened, before, sizeof before) == 0;
+    printf("the key destroyed: answer %u, output %s\n", answer, kept ? "left as it was" : "CHANGED");
+    return answer == LOCKER_AES_ZERO_KEY && kept ? 0 : 1;
 }

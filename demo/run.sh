@@ -6,4 +6,4 @@ top=$(cd "$(dirname "$0")/.." && pwd)
 # shellcheck disable=SC2086 # the flags are words
 $CC -std=c99 -Wall -Wextra -Wpedantic ${CFLAGS:--O2} -o "$out/purge" demo/purge.c "$lib"
 "$out/purge"
-echo "ok demo: four headers sealed and opened, and one call refused"
+echo "ok demo: four headers sealed and opened, and two calls refused"

@@ -7,12 +7,17 @@
  *
  *  - LOCKER_AES_OK: the output was written whole. Inputs are as they were.
  *  - Any other number is a refusal: every buffer is as it was, the output too.
- *  - Where several refusals apply, the lowest number is given. A test that concerns nothing a function takes is
- *    skipped. Each function's comment lists the numbers that it can answer, in the order of its tests.
+ *  - Where several refusals apply, the first in this order is given: 1, 6, 2, 3, 4, 5. A test that concerns nothing a
+ *    function takes is skipped. Each function's comment lists the numbers that it can answer, in the order of its
+ *    tests.
+ *  - A key of zeros is refused (LOCKER_AES_ZERO_KEY): a key that was destroyed by writing zeros over it cannot be used
+ *    by mistake. The other functions take any words as a schedule, those that such a key once expanded to among them.
  *  - A function depends on its arguments alone: no global state, no allocation, no system call. Calls on separate
  *    memory may run at the same time.
- *  - The contents of the keys, schedules and blocks decide no branch and no address. That is a rule of the code and is
- *    observed by running (tests/secret). It is not proved, and no promise is made of time.
+ *  - The contents of the keys, schedules and blocks decide no branch and no address, but for one bit: whether a key is
+ *    all zeros. That bit is public, since the answer says it; the test reads every byte of the key, whatever they are.
+ *    All this is a rule of the code and is observed by running (tests/secret). It is not proved, and no promise is made
+ *    of time.
  *
  * The answers, and every byte of every buffer afterwards, are proved of the library's source, for a caller who sees to
  * what follows; docs/PROOF.md says what such a proof rests on. That there is no state, no allocation and no system call
@@ -53,7 +58,8 @@
  * A call keeps nothing, but the registers and the stack that it worked in are not its own, and hold what it left until
  * other code writes there. Observed by running (tests/stack), not proved:
  *
- *  - Registers: after every function they may hold words of a schedule and of the blocks.
+ *  - Registers: after every function they may hold words of a schedule and of the blocks, and bytes of the key, these
+ *    after a refusal too.
  *  - The stack below the caller: each function's comment says what may remain. Enough of it gives a round key away, and
  *    round keys give the key away.
  *  - locker_aes_clear_stack() clears both.
@@ -80,7 +86,7 @@ extern "C" {
 
 /* The library's version (CHANGELOG.md), and the number in its shared library's name: raised when a program that was
    compiled before can no longer run with it. */
-#define LOCKER_AES_VERSION "0.2.1"
+#define LOCKER_AES_VERSION "0.3.0"
 #define LOCKER_AES_ABI     1
 
 /* The answers. */
@@ -90,6 +96,7 @@ extern "C" {
 #define LOCKER_AES_BAD_INPUT_LENGTH    3u /* the input is not one full batch */
 #define LOCKER_AES_BAD_OUTPUT_LENGTH   4u /* the output is not one full batch (key check value: not 3 bytes) */
 #define LOCKER_AES_BAD_DIRECTION       5u /* the direction is neither 0 nor 1 */
+#define LOCKER_AES_ZERO_KEY            6u /* the key has a right length, and every byte of it is zero; tested after 1 */
 
 /* The directions of locker_aes(). */
 #define LOCKER_AES_ENCRYPT 0u
@@ -116,8 +123,8 @@ extern "C" {
  * The door: makes the schedule of the key inside, with 64-bit words, and encrypts or decrypts one batch of four blocks.
  * The schedule is not handed out. Input and output have 64 bytes each.
  *
- * Answers 1 (key_len is neither 16 nor 32), 3 (input_len is not 64), 4 (output_len is not 64), 5 (direction is neither
- * LOCKER_AES_ENCRYPT nor LOCKER_AES_DECRYPT), or 0.
+ * Answers 1 (key_len is neither 16 nor 32), 6 (the key is all zeros), 3 (input_len is not 64), 4 (output_len is not
+ * 64), 5 (direction is neither LOCKER_AES_ENCRYPT nor LOCKER_AES_DECRYPT), or 0.
  *
  * Remains on the stack: nothing that depends on the key or the blocks; it erases what it wrote there.
  */
@@ -128,7 +135,8 @@ uint32_t locker_aes(uint32_t direction, const uint8_t *key, size_t key_len, cons
 /*
  * Expand a key: writes its schedule.
  *
- * Answers 1 (key_len is neither 16 nor 32), 2 (schedule_len is not 88 for 16, not 120 for 32), or 0.
+ * Answers 1 (key_len is neither 16 nor 32), 6 (the key is all zeros), 2 (schedule_len is not 88 for 16, not 120 for
+ * 32), or 0.
  *
  * Remains on the stack: what the last round keys were made from.
  */

@@ -19,23 +19,25 @@
 
 static unsigned char *page[3];      /* each buffer's page */
 static unsigned char held[3][PAGE]; /* what it holds between calls */
-static unsigned char *wide;         /* room for HUGE elements and some, all zero, never all touched */
-static unsigned long tried, answered[6];
+static unsigned char *wide;         /* room for HUGE elements and some, zero behind its first page, never all touched */
+static unsigned long tried, answered[7];
 static struct {
     const struct call *c;
     uint32_t direction;
     const size_t *n;
+    uint32_t expected;
     long answer; /* or -1, before there is one */
 } now; /* the call under way, for the report of a fault */
+static int zeros; /* the key is zeros, and what lies around it is not */
 
 /* A buffer lies at its page's beginning, one element after it, at the page's end, nowhere (null), or in `wide`. */
 enum place { BEGIN, ODD, END, NOWHERE, WIDE };
 
 static void wrong(const char *what)
 {
-    printf("FAILED: %s, direction %lu, lengths %zu %zu %zu: %s (answer %ld, expected %lu)\n", now.c->name,
-           (unsigned long)now.direction, now.n[0], now.n[1], last_of(now.c) == 2 ? now.n[2] : 0, what, now.answer,
-           (unsigned long)number(now.c, now.direction, now.n));
+    printf("FAILED: %s, direction %lu, lengths %s%zu %zu %zu: %s (answer %ld, expected %lu)\n", now.c->name,
+           (unsigned long)now.direction, zeros ? "of zeros " : "", now.n[0], now.n[1],
+           last_of(now.c) == 2 ? now.n[2] : 0, what, now.answer, (unsigned long)now.expected);
     fflush(stdout);
     _Exit(1);
 }
@@ -64,36 +66,46 @@ static void allow(int b)
 }
 
 /* One call, and where it is answered a second one over other contents of the output: both must write what is right. */
+static void judge(const struct call *c, uint32_t direction, const size_t n[3], void *const at[3], unsigned char *out)
+{
+    unsigned char right[MOST_WRITTEN], *before;
+    int last = last_of(c), again;
+    size_t size = n[last] * element(c, last), i;
+
+    now.c = c, now.direction = direction, now.n = n;
+    now.expected = number(c, direction, at, n);
+    allow(now.expected == 0 ? last : -1);
+    if (now.expected == 0) content(c, direction, at, n, right);
+    for (again = 0; again < 2; again++) {
+        now.answer = -1;
+        now.answer = run(c, direction, at, n);
+        tried++;
+        if (now.answer != (long)now.expected) wrong("wrong number");
+        answered[now.expected]++;
+        if (now.expected != 0) return;
+        if (memcmp(out, right, size)) wrong("wrong content");
+        before = held[last] + (out - page[last]);
+        memcpy(out, before, size);
+        if (memcmp(page[last], held[last], PAGE)) wrong("written outside the output");
+        for (i = 0; i < size && !again; i++) out[i] = (unsigned char)~before[i];
+    }
+}
+
 static void try(const struct call *c, uint32_t direction, const size_t n[3], const enum place place[3])
 {
-    unsigned char right[MOST_WRITTEN], *lies[3] = {0}, *before;
-    int last = last_of(c), b, again;
-    uint32_t expected = number(c, direction, n);
-    size_t size = n[last] * element(c, last), i;
+    unsigned char *lies[3] = {0};
     void *at[3] = {0};
+    int b;
 
-    for (b = 0; b <= last; b++) {
+    for (b = 0; b <= last_of(c); b++) {
         lies[b] = place[b] == WIDE ? wide : page[b];
         if (place[b] == END) lies[b] += PAGE - n[b] * element(c, b);
         if (place[b] == ODD) lies[b] += element(c, b);
         at[b] = place[b] == NOWHERE ? NULL : lies[b];
     }
-    now.c = c, now.direction = direction, now.n = n;
-    allow(expected == 0 ? last : -1);
-    if (expected == 0) content(c, direction, at, n, right);
-    for (again = 0; again < 2; again++) {
-        now.answer = -1;
-        now.answer = run(c, direction, at, n);
-        tried++;
-        if (now.answer != (long)expected) wrong("wrong number");
-        answered[expected]++;
-        if (expected != 0) return;
-        if (memcmp(lies[last], right, size)) wrong("wrong content");
-        before = held[last] + (lies[last] - page[last]);
-        memcpy(lies[last], before, size);
-        if (memcmp(page[last], held[last], PAGE)) wrong("written outside the output");
-        for (i = 0; i < size && !again; i++) lies[last][i] = (unsigned char)~before[i];
-    }
+    if (zeros) allow(0), memset(lies[0], 0, n[0]);
+    judge(c, direction, n, at, lies[last_of(c)]);
+    if (zeros) allow(0), memcpy(page[0], held[0], PAGE);
 }
 
 /* One choice of lengths, at the pages' beginnings and ends, with null for each length of 0, and off any alignment. */
@@ -105,7 +117,7 @@ static void try_places(const struct call *c, uint32_t direction, const size_t n[
     try(c, direction, n, begin);
     try(c, direction, n, end);
     if (!n[0] || !n[1] || !n[2]) try(c, direction, n, null);
-    if (!number(c, direction, n)) try(c, direction, n, odd);
+    if (!now.expected) try(c, direction, n, odd);
 }
 
 /* Buffers a and b take every length of the list together; a third buffer its right ones, and wrong ones beside. */
@@ -125,6 +137,23 @@ static void try_pair(const struct call *c, uint32_t direction, int a, int b, con
                 n[b] = list[j];
                 try_places(c, direction, n);
             }
+}
+
+/* A key of zeros at each length from 0 to 40; with it every length of a schedule, and lengths around a batch. */
+static void try_zeros(const struct call *c, uint32_t direction, const size_t *list, size_t count)
+{
+    static const size_t batch[] = {0, 1, 63, 64, 65};
+    const size_t batches = sizeof batch / sizeof batch[0];
+    size_t n[3] = {0}, i;
+
+    zeros = 1;
+    for (; n[0] <= 40; n[0]++)
+        for (i = 0; i < (last_of(c) == 2 ? batches * batches : count); i++) {
+            n[1] = last_of(c) == 2 ? batch[i % batches] : list[i];
+            n[2] = last_of(c) == 2 ? batch[i / batches] : 0;
+            try_places(c, direction, n);
+        }
+    zeros = 0;
 }
 
 /* Each buffer in turn longer than a number of 16 or 32 bits can say, by a right length; the others right. */
@@ -174,7 +203,13 @@ int main(void)
         if (mprotect(page[b], PAGE, PROT_READ)) return perror("mprotect"), 2;
     }
     wide = map(8 * (HUGE + 256), PROT_READ);
-    if (wide == MAP_FAILED) printf("skipped: lengths from 2^16, since 34 GB of address space are not to be had\n");
+    if (wide == MAP_FAILED) {
+        printf("skipped: lengths from 2^16, since 34 GB of address space are not to be had\n");
+    } else { /* so that a key cut short there is not zeros */
+        if (mprotect(wide, PAGE, PROT_READ | PROT_WRITE)) return perror("mprotect"), 2;
+        memcpy(wide, held[0], PAGE);
+        if (mprotect(wide, PAGE, PROT_READ)) return perror("mprotect"), 2;
+    }
 
     for (call = 0; call < CALLS; call++)
         for (d = 0; d < (calls[call].gives == AS_DIRECTED ? sizeof directions / sizeof directions[0] : 1); d++) {
@@ -183,11 +218,12 @@ int main(void)
                 try_pair(&calls[call], directions[d], 0, 2, list, count);
                 try_pair(&calls[call], directions[d], 1, 2, list, count);
             }
+            if (calls[call].takes[0] == 'k') try_zeros(&calls[call], directions[d], list, count);
             if (wide != MAP_FAILED) try_long(&calls[call], directions[d]);
         }
-    for (i = 0; i < 6; i++)
+    for (i = 0; i < 7; i++)
         if (!answered[i]) return printf("FAILED: the answer %zu was never met\n", i), 1;
-    printf("ok boundary: %lu calls; answers 0 to 5: %lu %lu %lu %lu %lu %lu\n", tried, answered[0], answered[1],
-           answered[2], answered[3], answered[4], answered[5]);
+    printf("ok boundary: %lu calls; answers 0 to 6: %lu %lu %lu %lu %lu %lu %lu\n", tried, answered[0], answered[1],
+           answered[2], answered[3], answered[4], answered[5], answered[6]);
     return 0;
 }

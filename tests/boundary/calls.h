@@ -71,15 +71,24 @@ static inline const struct size *size_for(const struct call *c, size_t n)
     return NULL;
 }
 
-/* The number, by SCOPE's "Answers": a call takes its buffers in the order of their numbers. */
-static inline uint32_t number(const struct call *c, uint32_t direction, const size_t n[3])
+static inline int all_zero(const uint8_t *bytes, size_t n)
+{
+    while (n > 0 && bytes[n - 1] == 0) n--;
+    return n == 0;
+}
+
+/* The number, by SCOPE's "Answers": a call takes its buffers in the order of their numbers, and a key, once its length
+   is right, must not be zeros. */
+static inline uint32_t number(const struct call *c, uint32_t direction, void *const at[3], const size_t n[3])
 {
     static const char numbered[] = "-ksio"; /* 1 key, 2 schedule, 3 input, 4 output */
     const struct size *z = size_for(c, n[0]);
     int b;
 
-    for (b = 0; b <= last_of(c); b++)
+    for (b = 0; b <= last_of(c); b++) {
         if (!z || n[b] != right_length(c, b, z)) return (uint32_t)(strchr(numbered, c->takes[b]) - numbered);
+        if (c->takes[b] == 'k' && all_zero(at[b], n[b])) return 6;
+    }
     return c->gives == AS_DIRECTED && direction > 1 ? 5 : 0;
 }
 

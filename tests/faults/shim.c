@@ -14,8 +14,9 @@ enum fault {
     other_direction, blocks_swapped, slots_swapped, end_unwritten, added_to_output, wrong_for_one_bit,
     wrong_for_one_slot, half_key, one_bit, slot_empty, last_key_shifted, nots_on_key_0,
     /* the number */
-    zero_refused, output_tested_first, direction_tested_first, takes_one_more, cut_to_8, cut_to_16, cut_to_32,
-    direction_cut,
+    output_tested_first, direction_tested_first, takes_one_more, cut_to_8, cut_to_16, cut_to_32, direction_cut,
+    /* the test for a key of zeros, which ends at the first byte that is none in all of these */
+    zeros_taken, zeros_tested_last, zeros_of_any_length, half_of_zeros, last_byte_skipped, exits_early,
     /* the buffers */
     refusal_writes, refusal_writes_at_one_length, refusal_writes_and_back, reads_past, reads_before, reads_nothing,
     writes_past, changes_input, changes_input_and_back,
@@ -77,7 +78,7 @@ static inline uint32_t shim(enum call call, uint32_t direction, const void *a, s
     const int last = expands || checks ? 1 : 2, takes_schedule = call != door && !expands;
     const size_t right = expands ? (an == 16 ? 88 : 120) : checks ? 3 : 8 * word;
     const size_t size0 = takes_schedule ? word * an : an, size = expands ? word * n[last] : n[last];
-    uint8_t *first = at[0], *out = at[last], was[960], words[960], bits = 0, others = 0, end[16], room[8192];
+    uint8_t *first = at[0], *out = at[last], was[960], words[960], others = 0, end[16], room[8192];
     uint64_t schedule[120];
     uint32_t answer;
 
@@ -91,9 +92,16 @@ static inline uint32_t shim(enum call call, uint32_t direction, const void *a, s
         at[0] = words;
     }
     if (HAS(half_key) && an == 32) n[0] = 16;
-    if (HAS(zero_refused) && (an == 16 || an == 32)) {
-        for (i = 0; i < an; i++) bits |= first[i];
-        if (!bits) return 1;
+    if (CALL == call && FAULT >= zeros_taken && FAULT <= exits_early) {
+        const int a_key = an == 16 || an == 32;
+        size_t zeros = 0; /* that the key begins with */
+        while (zeros < an && first[zeros] == 0) zeros++;
+        KEEP(zeros);
+        if (HAS(zeros_taken) && a_key && zeros == an) at[0] = memset(words, 1, an);
+        if (HAS(zeros_tested_last) && a_key && zeros == an && n[last] != right) return expands ? 2 : 4;
+        if (HAS(zeros_of_any_length) && an && zeros == an) return 6;
+        if (HAS(half_of_zeros) && an == 32 && zeros >= 16) return 6;
+        if (HAS(last_byte_skipped) && a_key && zeros >= an - 1) return 6;
     }
     if (HAS(output_tested_first) && (expands ? n[1] != 88 && n[1] != 120 : n[last] != right)) return expands ? 2 : 4;
     if (HAS(direction_tested_first) && direction > 1) return 5;

@@ -45,6 +45,8 @@ int main(void)
         expect(memcmp(out, expected, 64) == 0 && memcmp(back, plain, 64) == 0, "blocks by the door");
     }
     expect(locker_aes(LOCKER_AES_ENCRYPT, key, 17, plain, 64, out, 64) == LOCKER_AES_BAD_KEY_LENGTH, "a key of 17 bytes");
+    memset(key, 0, sizeof key);
+    expect(locker_aes(LOCKER_AES_ENCRYPT, key, 32, plain, 64, out, 64) == LOCKER_AES_ZERO_KEY, "a key of zeros");
     locker_aes_clear_stack();
     printf("%s\n", LOCKER_AES_VERSION);
     return failures;

@@ -1,7 +1,9 @@
 //! Ours, linked from the static library, against the Rust: compare SEED COUNT.
 //!
 //! Every call is judged whole: its number, every element of the buffer that it may write, its inputs, and guard
-//! elements around each buffer. The refusals are not the Rust's; they are stated here from docs/SCOPE.md's table.
+//! elements around each buffer. The refusals are not the Rust's; they are stated here from docs/SCOPE.md's table. The
+//! Rust takes a key of zeros: ours must refuse it, and the other calls take the Rust's schedule of it. (The words of
+//! that schedule are compared by crates/replay_main, below the public call.)
 use rust_aes::{Element, FIPS_KEYS, Random, SIZES, Width, hex, words};
 
 type Expand<W> = unsafe extern "C" fn(*const u8, usize, *mut W, usize) -> u32;
@@ -40,7 +42,7 @@ unsafe extern "C" {
 /// What a call answers, and what the buffer that it may write then holds.
 type Outcome<T> = (u32, Vec<T>);
 
-/// The lowest number whose test applies; else the buffer as `write` leaves it.
+/// The first number whose test applies; else the buffer as `write` leaves it.
 fn outcome<T: Copy>(refusals: &[(u32, bool)], buffer: &[T], write: impl FnOnce(&mut [T])) -> Outcome<T> {
     let mut after = buffer.to_vec();
     match refusals.iter().find(|(_, applies)| *applies) {
@@ -56,12 +58,16 @@ fn bad_key(key: &[u8]) -> bool {
     SIZES.iter().all(|size| size.0 != key.len())
 }
 
+fn zero_key(key: &[u8]) -> bool {
+    key.iter().all(|byte| *byte == 0)
+}
+
 fn bad_schedule<W>(schedule: &[W]) -> bool {
     SIZES.iter().all(|size| size.1 != schedule.len())
 }
 
 fn expanded<W: Width>(key: &[u8], schedule: &[W]) -> Outcome<W> {
-    let refusals = [(1, bad_key(key)), (2, schedule.len() != words(key.len()))];
+    let refusals = [(1, bad_key(key)), (6, zero_key(key)), (2, schedule.len() != words(key.len()))];
     outcome(&refusals, schedule, |to| W::expand(key, to))
 }
 
@@ -79,7 +85,8 @@ fn checked<W: Width>(schedule: &[W], output: &[u8]) -> Outcome<u8> {
 }
 
 fn by_door(direction: u32, key: &[u8], input: &[u8], output: &[u8]) -> Outcome<u8> {
-    let refusals = [(1, bad_key(key)), (3, input.len() != 64), (4, output.len() != 64), (5, direction > 1)];
+    let refusals =
+        [(1, bad_key(key)), (6, zero_key(key)), (3, input.len() != 64), (4, output.len() != 64), (5, direction > 1)];
     outcome(&refusals, output, |to| {
         let mut schedule = vec![0u64; words(key.len())];
         u64::expand(key, &mut schedule);
@@ -119,6 +126,7 @@ struct Run {
     schedules: u64,
     checks: u64,
     refusals: u64,
+    zeros: u64,
 }
 
 impl Run {
@@ -143,6 +151,7 @@ impl Run {
     ) {
         let (answer, lent, kept) = got;
         self.refusals += u64::from(expected.0 != 0);
+        self.zeros += u64::from(expected.0 == 6);
         if answer == expected.0 && kept && lent.holds(&expected.1) {
             return;
         }
@@ -192,7 +201,8 @@ impl Run {
     fn width<W: Ours>(&mut self, key: &[u8], any: &[W]) {
         let before = self.some(words(key.len()));
         self.expand::<W>(key, &before);
-        let made = expanded(key, &before).1;
+        let mut made = before;
+        W::expand(key, &mut made);
         for schedule in [&made[..], any] {
             for direction in 0..2 {
                 let (input, output) = (self.some::<u8>(W::BATCH), self.some::<u8>(W::BATCH));
@@ -201,7 +211,8 @@ impl Run {
             let output = self.some::<u8>(3);
             self.check(schedule, &output);
         }
-        (self.schedules, self.batches, self.checks) = (self.schedules + 1, self.batches + 4, self.checks + 2);
+        (self.batches, self.checks) = (self.batches + 4, self.checks + 2);
+        self.schedules += u64::from(!zero_key(key));
 
         let (odd_key, odd_schedule) = (self.odd::<u8>(), self.odd::<W>());
         self.expand(&odd_key, &odd_schedule);
@@ -263,7 +274,7 @@ impl Run {
             self.door(direction, key, &odd_input, &odd_output);
             self.door(direction, &odd_key, &odd_input, &odd_output);
         }
-        self.batches += 2;
+        self.batches += if zero_key(key) { 0 } else { 2 };
     }
 }
 
@@ -284,7 +295,7 @@ fn main() {
     println!(
         "oracle: seed {seed}, at least {count} batches under random keys (again: tests/oracle/run.sh {count} {seed})"
     );
-    let mut run = Run { random: Random(seed), batches: 0, schedules: 0, checks: 0, refusals: 0 };
+    let mut run = Run { random: Random(seed), batches: 0, schedules: 0, checks: 0, refusals: 0, zeros: 0 };
     for (len, n) in SIZES {
         for (i, key) in structured(len).iter().enumerate() {
             let same = [0, u64::MAX, 0x6363_6363_6363_6363][i % 3]; // schedules of equal words
@@ -301,8 +312,10 @@ fn main() {
             run.key(&key, &any32, &any64);
         }
     }
+    assert!(run.zeros > 0, "no key of zeros was tried");
     println!(
-        "ok oracle: {} batches, {} schedules, {} check values and {} refusals as the Rust and docs/SCOPE.md have them",
-        run.batches, run.schedules, run.checks, run.refusals
+        "ok oracle: {} batches, {} schedules, {} check values and {} refusals, {} of a key of zeros, \
+         as the Rust and docs/SCOPE.md have them",
+        run.batches, run.schedules, run.checks, run.refusals, run.zeros
     );
 }

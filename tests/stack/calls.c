@@ -15,6 +15,8 @@
 
 CALL(door_encrypt, locker_aes(LOCKER_AES_ENCRYPT, key, key_len, input, 64, output, 64))
 CALL(door_decrypt, locker_aes(LOCKER_AES_DECRYPT, key, key_len, input, 64, output, 64))
+/* refused after the key was looked at: answer is 0 where it is the right one */
+CALL(door_refused, locker_aes(2, key, key_len, input, 64, output, 64) - LOCKER_AES_BAD_DIRECTION)
 CALL(expand32, locker_aes_expand32(key, key_len, schedule32, words))
 CALL(expand64, locker_aes_expand64(key, key_len, schedule64, words))
 CALL(encrypt32, locker_aes_encrypt32(schedule32, words, input, 32, output, 32))
@@ -47,8 +49,8 @@ static void large_frame_cleared(void)
 
 #define ROW(name, bits, direction, door) {#name, name, name##_cleared, bits, direction, door}
 const struct call calls[] = {
-    ROW(door_encrypt, 64, 0, 1), ROW(door_decrypt, 64, 1, 1), ROW(expand32, 32, 0, 0),  ROW(expand64, 64, 0, 0),
-    ROW(encrypt32, 32, 0, 0),    ROW(encrypt64, 64, 0, 0),    ROW(decrypt32, 32, 1, 0), ROW(decrypt64, 64, 1, 0),
-    ROW(check32, 32, 0, 0),      ROW(check64, 64, 0, 0),      ROW(large_frame, 64, 1, 0),
+    ROW(door_encrypt, 64, 0, 1), ROW(door_decrypt, 64, 1, 1), ROW(door_refused, 64, 0, 1), ROW(expand32, 32, 0, 0),
+    ROW(expand64, 64, 0, 0),     ROW(encrypt32, 32, 0, 0),    ROW(encrypt64, 64, 0, 0),    ROW(decrypt32, 32, 1, 0),
+    ROW(decrypt64, 64, 1, 0),    ROW(check32, 32, 0, 0),      ROW(check64, 64, 0, 0),      ROW(large_frame, 64, 1, 0),
 };
 const size_t call_count = sizeof calls / sizeof calls[0];

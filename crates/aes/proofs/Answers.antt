@@ -17,7 +17,7 @@ use Rattle.lanes.proofs.Sizes.{schedule-found}
 use Rattle.cipher.specs.Fixslice.{Scheduled}
 use Rattle.outcome.specs.Outcome.{answers}
 use Rattle.outcome.proofs.Laws.{is, is-not, differs, agrees, stop, pass}
-use Rattle.calls.specs.Calls.{keyWordsOf, scheduleWords, roundsOf, keysOf, expandOutcome, cryptOutcome, checkValue, checkOutcome}
+use Rattle.calls.specs.Calls.{keyWordsOf, zeroKey, scheduleWords, roundsOf, keysOf, expandOutcome, cryptOutcome, checkValue, checkOutcome}
 use Rattle.aes.specs.KeySize.{found, sizeFor}
 use Rattle.aes.specs.declared.KeySize.the-variants.{Of, NoKey}
 
@@ -57,13 +57,19 @@ module _ (w : Width) (key s : List ℕ) where
   expand-1 e = stop 1 s _ (is e)
 
   module _ (keyed : keySize (length key) .nk ≡ 0 → ⊥) where
-    pub expand-2 : (length s ≡ keySize (length key) .words → ⊥) → answers 2 s ≡ expandOutcome w key s
-    unfolding expandOutcome keyWordsOf scheduleWords
-    expand-2 h = pass 1 s (is-not keyed) (stop 2 s _ (differs h))
+    pub expand-6 : zeroKey key ≡ true → answers 6 s ≡ expandOutcome w key s
+    unfolding expandOutcome keyWordsOf
+    expand-6 z = pass 1 s (is-not keyed) (stop 6 s _ z)
 
-    pub expand-0 : length s ≡ keySize (length key) .words → {x : List ℕ} → x ≡ scheduleOf w (keySize (length key) .nk) key → answers 0 x ≡ expandOutcome w key s
-    unfolding expandOutcome keyWordsOf scheduleWords
-    expand-0 h e = pass 1 s (is-not keyed) (pass 2 s (agrees h) (ap (answers 0) e))
+    module _ (z : zeroKey key ≡ false) where
+      pub expand-2 : (length s ≡ keySize (length key) .words → ⊥) → answers 2 s ≡ expandOutcome w key s
+      unfolding expandOutcome keyWordsOf scheduleWords
+      expand-2 h = pass 1 s (is-not keyed) (pass 6 s z (stop 2 s _ (differs h)))
+
+      pub expand-0 : length s ≡ keySize (length key) .words → {x : List ℕ} → x ≡ scheduleOf w (keySize (length key) .nk) key
+          → answers 0 x ≡ expandOutcome w key s
+      unfolding expandOutcome keyWordsOf scheduleWords
+      expand-0 h e = pass 1 s (is-not keyed) (pass 6 s z (pass 2 s (agrees h) (ap (answers 0) e)))
 
 -- ---- a schedule, by its length; m is the code's number of rounds
 pub scheduled : (n : ℕ) {m : ℕ} → m ≡ scheduleSize n .rounds → (m ≡ 0 → ⊥) → Scheduled m n

@@ -4,6 +4,7 @@ pub mod w64;
 
 ghost use mathlib.Core.Path.{_≡_};
 ghost use Rattle.lanes.specs.Sizes.{scheduleSize};
+ghost use Rattle.calls.specs.Calls.{zeroKey};
 ghost use Rattle.aes.specs.KeySize.{sizeFor};
 
 // What the length of a key says: the number of rounds and the words of its schedule; or that it is no key.
@@ -20,6 +21,17 @@ pub fn key_size(bytes: usize) -> KeySize
         32 => KeySize::Of(14, 120),
         _ => KeySize::NoKey,
     }
+}
+
+// Whether a key is all zeros. Every byte is read and there is no branch on one: the bit that is answered is the only one that the calls go by.
+pub fn zero_key(key: &[u8]) -> bool
+    ensures { λ r. ⌜ r ≡ zeroKey (now (key .entry)) ⌝ }
+{
+    let mut joined = 0u8;
+    for i in 0..key.len() {
+        joined |= key[i];
+    }
+    joined == 0
 }
 
 // The number of rounds of a schedule of so many words; 0 where it is none.

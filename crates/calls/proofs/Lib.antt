@@ -1,2 +1,3 @@
 mod Limits
 pub mod Directions
+pub mod ZeroKey

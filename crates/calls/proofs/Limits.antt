@@ -1,14 +1,14 @@
--- Both sides of each limit of docs/SCOPE.md, computed from the promises: the numbers that calls answer by the lengths of what they are lent, and which
--- is answered where several apply. Assumes nothing.
+-- Both sides of each limit of docs/SCOPE.md, computed from the promises: the numbers that calls answer by the lengths of what they are lent and for keys
+-- of zeros, and which is answered where several apply. Assumes nothing.
 use mathlib.Core.Path.{_≡_, refl}
-use mathlib.Core.List.{List, [], _∷_, map}
-use Prim.Native.Nat.{ℕ}
+use mathlib.Core.List.{List, [], _∷_, _++_, map}
+use Prim.Native.Nat.{ℕ, _-_}
 use lib.ListN.{replicate}
-use Rattle.fips197.specs.Aes.{cipher, invCipher}
+use Rattle.fips197.specs.Aes.{range, cipher, invCipher}
 use Rattle.lanes.specs.Layout.{w32, w64}
 use Rattle.lanes.specs.Sizes.{keySize, scheduleSize}
 use Rattle.outcome.specs.Outcome.{Outcome, answers}
-use Rattle.calls.specs.Calls.{keyWordsOf, scheduleWords, roundsOf, expandOutcome, cryptOutcome, checkOutcome, doorOutcome}
+use Rattle.calls.specs.Calls.{keyWordsOf, zeroKey, scheduleWords, roundsOf, expandOutcome, cryptOutcome, checkOutcome, doorOutcome}
 
 abbrev numberOf : Outcome (List ℕ) → ℕ
 numberOf (answers n x) = n
@@ -17,15 +17,34 @@ numberOf (answers n x) = n
 abbrev zeros : ℕ → List ℕ
 zeros n = replicate n 0
 
--- expand, by the key's length, with 88 words and with 120; a 17-byte key is 1 with any schedule
+-- expand, by the length of a key of ones, with 88 words, 120 and 87; a 17-byte key is 1 with any schedule
 expands : ℕ → List ℕ
-expands words = map (λ k. numberOf (expandOutcome w32 (zeros k) (zeros words))) (0 ∷ 15 ∷ 16 ∷ 17 ∷ 24 ∷ 31 ∷ 32 ∷ 33 ∷ [])
+expands words = map (λ k. numberOf (expandOutcome w32 (replicate k 1) (zeros words))) (0 ∷ 15 ∷ 16 ∷ 17 ∷ 24 ∷ 31 ∷ 32 ∷ 33 ∷ [])
 
 expand-limits : (expands 88 ≡ 1 ∷ 1 ∷ 0 ∷ 1 ∷ 1 ∷ 1 ∷ 2 ∷ 1 ∷ [])
     × (expands 120 ≡ 1 ∷ 1 ∷ 2 ∷ 1 ∷ 1 ∷ 1 ∷ 0 ∷ 1 ∷ [])
     × (expands 87 ≡ 1 ∷ 1 ∷ 2 ∷ 1 ∷ 1 ∷ 1 ∷ 2 ∷ 1 ∷ [])
-unfolding expands expandOutcome keyWordsOf scheduleWords keySize
+unfolding expands expandOutcome keyWordsOf zeroKey scheduleWords keySize
 expand-limits = (refl, refl, refl)
+
+-- keys of zeros, of each length from 0 to 40: 6 with any schedule, and 1 where they are no keys
+zeroKeys : ℕ → List ℕ
+zeroKeys words = map (λ k. numberOf (expandOutcome w64 (zeros k) (zeros words))) (range 0 41)
+
+refusedZeros : List ℕ
+refusedZeros = replicate 16 1 ++ (6 ∷ replicate 15 1) ++ (6 ∷ replicate 8 1)
+
+zero-key-limits : (zeroKeys 88 ≡ refusedZeros) × (zeroKeys 120 ≡ refusedZeros) × (zeroKeys 87 ≡ refusedZeros)
+unfolding zeroKeys refusedZeros expandOutcome keyWordsOf zeroKey scheduleWords keySize
+zero-key-limits = (refl, refl, refl)
+
+-- one bit is enough not to be zeros, in whichever byte: a key of n bytes that is zero but for byte i
+oneBit : ℕ → ℕ → List ℕ
+oneBit n words = map (λ i. numberOf (expandOutcome w64 (zeros i ++ (0x80 ∷ zeros (n - 1 - i))) (zeros words))) (range 0 n)
+
+one-bit-limits : (oneBit 16 88 ≡ replicate 16 0) × (oneBit 32 120 ≡ replicate 32 0)
+unfolding oneBit expandOutcome keyWordsOf zeroKey scheduleWords keySize
+one-bit-limits = (refl, refl)
 
 -- encrypt and decrypt, by the schedule's length, with a full batch; then by the input's, with an output that is none
 crypts : List ℕ
@@ -46,14 +65,14 @@ check-limits : (checks 88 ≡ 4 ∷ 4 ∷ 0 ∷ 4 ∷ []) × (checks 104 ≡ 2 �
 unfolding checks checkOutcome roundsOf scheduleSize
 check-limits = (refl, refl)
 
--- the door: all that is wrong at first, and one thing less each time; and its directions
-doors : List ℕ
-doors =
-    numberOf (doorOutcome 2 (zeros 17) (zeros 63) (zeros 65)) ∷
-    numberOf (doorOutcome 2 (zeros 16) (zeros 63) (zeros 65)) ∷
-    numberOf (doorOutcome 2 (zeros 16) (zeros 64) (zeros 65)) ∷
-    map (λ d. numberOf (doorOutcome d (zeros 32) (zeros 64) (zeros 64))) (2 ∷ 0xffffffff ∷ 1 ∷ 0 ∷ [])
+-- the door with a key of bytes x: all that is wrong at first, and one thing less each time; and its directions
+doors : ℕ → List ℕ
+doors x =
+    numberOf (doorOutcome 2 (replicate 17 x) (zeros 63) (zeros 65)) ∷
+    numberOf (doorOutcome 2 (replicate 16 x) (zeros 63) (zeros 65)) ∷
+    numberOf (doorOutcome 2 (replicate 16 x) (zeros 64) (zeros 65)) ∷
+    map (λ d. numberOf (doorOutcome d (replicate 32 x) (zeros 64) (zeros 64))) (2 ∷ 0xffffffff ∷ 1 ∷ 0 ∷ [])
 
-door-limits : doors ≡ 1 ∷ 3 ∷ 4 ∷ 5 ∷ 5 ∷ 0 ∷ 0 ∷ []
-unfolding doors doorOutcome keyWordsOf keySize
-door-limits = refl
+door-limits : (doors 1 ≡ 1 ∷ 3 ∷ 4 ∷ 5 ∷ 5 ∷ 0 ∷ 0 ∷ []) × (doors 0 ≡ 1 ∷ 6 ∷ 6 ∷ 6 ∷ 6 ∷ 6 ∷ 6 ∷ [])
+unfolding doors doorOutcome keyWordsOf zeroKey keySize
+door-limits = (refl, refl)

@@ -1,6 +1,6 @@
 -- WHAT EACH PUBLIC CALL PROMISES, from its arguments alone: docs/SCOPE.md's table, one link for each refusal, in its order.
-use mathlib.Core.Bool.{not, _||_, cond}
-use mathlib.Core.List.{List}
+use mathlib.Core.Bool.{Bool, true, not, _&&_, _||_, cond}
+use mathlib.Core.List.{List, [], _∷_}
 use Prim.Native.Nat.{ℕ, _*_}
 use lib.Dec.{eqb}
 use lib.ListN.{length, take, replicate}
@@ -10,11 +10,16 @@ use Rattle.lanes.specs.Sizes.{keySize, scheduleSize}
 use Rattle.lanes.specs.Schedule.{reading, scheduleOf, eachBlock, cryptedBatch}
 use Rattle.outcome.specs.Outcome.{Outcome, answers, refuse}
 
--- ---- what a key and a schedule are, by their lengths
+-- ---- what a key and a schedule are
 
 -- the words of a key, FIPS-197's Nk; 0 where it is no key
 unfoldable pub keyWordsOf : List ℕ → ℕ
 keyWordsOf key = keySize (length key) .nk
+
+-- a key of zeros, which is what the purge leaves of one that it destroys
+unfoldable pub zeroKey : List ℕ → Bool
+zeroKey [] = true
+zeroKey (x ∷ xs) = eqb x 0 && zeroKey xs
 
 -- the words of its schedule
 unfoldable pub scheduleWords : List ℕ → ℕ
@@ -34,12 +39,13 @@ keysIn w schedule b = reading w (roundsOf schedule) (keysOf schedule) b
 
 -- ---- the calls
 
--- expand: 1 for the key's length, 2 for a schedule that is not as long as this key's
+-- expand: 1 for the key's length, 6 for a key of zeros, 2 for a schedule that is not as long as this key's
 unfoldable pub expandOutcome : Width → List ℕ → List ℕ → Outcome (List ℕ)
 expandOutcome w key schedule =
     refuse (eqb (keyWordsOf key) 0) 1 schedule
+    (refuse (zeroKey key) 6 schedule
     (refuse (not (eqb (length schedule) (scheduleWords key))) 2 schedule
-    (answers 0 (scheduleOf w (keyWordsOf key) key)))
+    (answers 0 (scheduleOf w (keyWordsOf key) key))))
 
 -- a call that takes one full batch through Cipher or InvCipher: 2 for the schedule's length, 3 for the input's, 4 for the output's
 unfoldable pub cryptOutcome : (List (List ℕ) → List ℕ → List ℕ) → Width → List ℕ → List ℕ → List ℕ → Outcome (List ℕ)
@@ -73,7 +79,8 @@ directed direction = cond (eqb direction 0) cipher invCipher
 unfoldable pub doorOutcome : ℕ → List ℕ → List ℕ → List ℕ → Outcome (List ℕ)
 doorOutcome direction key input output =
     refuse (eqb (keyWordsOf key) 0) 1 output
+    (refuse (zeroKey key) 6 output
     (refuse (not (eqb (length input) (16 * slots w64))) 3 output
     (refuse (not (eqb (length output) (16 * slots w64))) 4 output
     (refuse (not (eqb direction 0 || eqb direction 1)) 5 output
-    (answers 0 (eachBlock w64 (λ slot. directed direction (keyExpansion (keyWordsOf key) key)) (slots w64) input)))))
+    (answers 0 (eachBlock w64 (λ slot. directed direction (keyExpansion (keyWordsOf key) key)) (slots w64) input))))))

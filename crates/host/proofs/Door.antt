@@ -1,6 +1,7 @@
 -- The door: each answer from the tests that lead there; and the schedule of a key holds FIPS-197's round keys in every slot, so a batch under it is
 -- FIPS-197's with the key. Assumes nothing.
 use mathlib.Core.Path.{_≡_, _∙_, ap}
+use mathlib.Core.Bool.{true, false}
 use mathlib.Core.List.{List}
 use Prim.Native.Nat.{ℕ, _-_, _*_, _%_, _≤_, _<_}
 use native.Mathlib.Nat.{mod-lt}
@@ -20,7 +21,7 @@ use Rattle.schedule.proofs.Reading.{schedule-length, schedule-reads}
 use Rattle.cipher.specs.Fixslice.{Scheduled}
 use Rattle.outcome.specs.Outcome.{answers}
 use Rattle.outcome.proofs.Laws.{is, is-not, differs, agrees, stop, pass}
-use Rattle.calls.specs.Calls.{keyWordsOf, directed, doorOutcome}
+use Rattle.calls.specs.Calls.{keyWordsOf, zeroKey, directed, doorOutcome}
 use Rattle.calls.proofs.Directions.{neither, one-of}
 use Rattle.host.specs.Door.{crypted}
 
@@ -31,23 +32,28 @@ module _ (d : ℕ) (k i o : List ℕ) where
   door-1 p = stop 1 o _ (is p)
 
   module _ (p : keySize (length k) .nk ≡ 0 → ⊥) where
-    pub door-3 : (length i ≡ 16 * slots w64 → ⊥) → answers 3 o ≡ doorOutcome d k i o
+    pub door-6 : zeroKey k ≡ true → answers 6 o ≡ doorOutcome d k i o
     unfolding doorOutcome keyWordsOf
-    door-3 q = pass 1 o (is-not p) (stop 3 o _ (differs q))
+    door-6 z = pass 1 o (is-not p) (stop 6 o _ z)
 
-    module _ (q : length i ≡ 16 * slots w64) where
-      pub door-4 : (length o ≡ 16 * slots w64 → ⊥) → answers 4 o ≡ doorOutcome d k i o
+    module _ (z : zeroKey k ≡ false) where
+      pub door-3 : (length i ≡ 16 * slots w64 → ⊥) → answers 3 o ≡ doorOutcome d k i o
       unfolding doorOutcome keyWordsOf
-      door-4 r = pass 1 o (is-not p) (pass 3 o (agrees q) (stop 4 o _ (differs r)))
+      door-3 q = pass 1 o (is-not p) (pass 6 o z (stop 3 o _ (differs q)))
 
-      module _ (r : length o ≡ 16 * slots w64) where
-        pub door-5 : 1 < d → answers 5 o ≡ doorOutcome d k i o
+      module _ (q : length i ≡ 16 * slots w64) where
+        pub door-4 : (length o ≡ 16 * slots w64 → ⊥) → answers 4 o ≡ doorOutcome d k i o
         unfolding doorOutcome keyWordsOf
-        door-5 t = pass 1 o (is-not p) (pass 3 o (agrees q) (pass 4 o (agrees r) (stop 5 o _ (neither d t))))
+        door-4 r = pass 1 o (is-not p) (pass 6 o z (pass 3 o (agrees q) (stop 4 o _ (differs r))))
 
-        pub door-0 : d ≤ 1 → {x : List ℕ} → x ≡ crypted d k i → answers 0 x ≡ doorOutcome d k i o
-        unfolding doorOutcome keyWordsOf
-        door-0 t e = pass 1 o (is-not p) (pass 3 o (agrees q) (pass 4 o (agrees r) (pass 5 o (one-of d t) (ap (answers 0) e))))
+        module _ (r : length o ≡ 16 * slots w64) where
+          pub door-5 : 1 < d → answers 5 o ≡ doorOutcome d k i o
+          unfolding doorOutcome keyWordsOf
+          door-5 t = pass 1 o (is-not p) (pass 6 o z (pass 3 o (agrees q) (pass 4 o (agrees r) (stop 5 o _ (neither d t)))))
+
+          pub door-0 : d ≤ 1 → {x : List ℕ} → x ≡ crypted d k i → answers 0 x ≡ doorOutcome d k i o
+          unfolding doorOutcome keyWordsOf
+          door-0 t e = pass 1 o (is-not p) (pass 6 o z (pass 3 o (agrees q) (pass 4 o (agrees r) (pass 5 o (one-of d t) (ap (answers 0) e)))))
 
 -- ---- a batch under the schedule of a key
 module _ (key : List ℕ) (keyed : keySize (length key) .nk ≡ 0 → ⊥) where

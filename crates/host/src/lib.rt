@@ -9,6 +9,7 @@ ghost use Rattle.calls.specs.Calls.{expandOutcome, encryptOutcome, decryptOutco
 ghost use Rattle.host.specs.Door.{Ready, crypted};
 use aes::KeySize;
 use aes::key_size;
+use aes::zero_key;
 
 // Room for the longest schedule. A call, so that a goal says its result and not 120 zeros.
 fn blank() -> [u64; 120]
@@ -62,6 +63,10 @@ pub extern "C" fn locker_aes(direction: u32, key: &[u8], input: &[u8], output: &
     let KeySize::Of(rounds, words) = key_size(key.len()) else {
         return 1;
     };
+    let zeros = zero_key(key);
+    if zeros {
+        return 6;
+    }
     if input.len() != 64 {
         return 3;
     }

@@ -31,16 +31,25 @@ fn say_bytes(number: u32, space: &[u8], n: usize)
     say_answer(number, kept, apart);
 }
 
-pub fn expand(bits: usize, key: usize, words: usize)
-    requires { ⌜ (key ≤ 33) × (words ≤ 121) ⌝ }
+// So many bytes x as the key: of zeros that is told.
+fn say_key(x: u8, key: usize) {
+    if x == 0 {
+        hex::say_count(b" zero key ", key);
+    } else {
+        hex::say_count(b" key ", key);
+    }
+}
+
+pub fn expand(bits: usize, x: u8, key: usize, words: usize)
+    requires { ⌜ (key ≤ 40) × (words ≤ 121) ⌝ }
 {
     hex::say_count(b"expand", bits);
-    hex::say_count(b" key ", key);
+    say_key(x, key);
     hex::say_count(b" schedule ", words);
     if bits == 32 {
-        w32::expand(key, words);
+        w32::expand(x, key, words);
     } else {
-        w64::expand(key, words);
+        w64::expand(x, key, words);
     }
 }
 
@@ -98,10 +107,10 @@ pub fn check_value(bits: usize, words: usize, output: usize)
     say_bytes(number, &space, output);
 }
 
-fn door_in(space: &mut [u8], direction: u32, key: usize, input: usize, output: usize) -> u32
-    requires { ⌜ (output ≤ length (now space)) × (input ≤ 65) × (key ≤ 33) ⌝ }
+fn door_in(space: &mut [u8], direction: u32, x: u8, key: usize, input: usize, output: usize) -> u32
+    requires { ⌜ (output ≤ length (now space)) × (input ≤ 65) × (key ≤ 40) ⌝ }
 {
-    let key_bytes = bytes(0x11);
+    let key_bytes = bytes(x);
     let batch = bytes(0x22);
     host::locker_aes(
         direction,
@@ -111,14 +120,14 @@ fn door_in(space: &mut [u8], direction: u32, key: usize, input: usize, output: u
     )
 }
 
-pub fn door(direction: u32, key: usize, input: usize, output: usize)
-    requires { ⌜ (output ≤ 65) × (input ≤ 65) × (key ≤ 33) ⌝ }
+pub fn door(direction: u32, x: u8, key: usize, input: usize, output: usize)
+    requires { ⌜ (output ≤ 65) × (input ≤ 65) × (key ≤ 40) ⌝ }
 {
     hex::say_count(b"locker_aes direction ", direction as usize);
-    hex::say_count(b" key ", key);
+    say_key(x, key);
     hex::say_count(b" input ", input);
     hex::say_count(b" output ", output);
     let mut space = bytes(0x5a);
-    let number = door_in(&mut space, direction, key, input, output);
+    let number = door_in(&mut space, direction, x, key, input, output);
     say_bytes(number, &space, output);
 }

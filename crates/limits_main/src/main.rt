@@ -9,7 +9,14 @@ ghost use Prim.Native.Nat.{_≤_};
 
 fn expands(bits: usize) {
     for i in 0..72 {
-        calls::expand(bits, lengths::key(i / 8), lengths::schedule(i % 8));
+        calls::expand(bits, 0x11, lengths::key(i / 8), lengths::schedule(i % 8));
+    }
+}
+
+// Keys of zeros, of each length from 0 to 40.
+fn zeros_expand(bits: usize) {
+    for i in 0..328 {
+        calls::expand(bits, 0, i / 8, lengths::schedule(i % 8));
     }
 }
 
@@ -37,9 +44,23 @@ fn doors() {
     for i in 0..900 {
         calls::door(
             lengths::direction(i / 225),
+            0x11,
             lengths::key(i / 25 % 9),
             lengths::batch(i / 5 % 5, 64),
             lengths::batch(i % 5, 64),
+        );
+    }
+}
+
+// Keys of zeros, of each length from 0 to 40, with a right and a wrong direction, input and output.
+fn zeros_at_door() {
+    for i in 0..328 {
+        calls::door(
+            lengths::direction(i / 4 % 2 * 2),
+            0,
+            i / 8,
+            lengths::batch(i / 2 % 2 + 2, 64),
+            lengths::batch(i % 2 + 3, 64),
         );
     }
 }
@@ -48,6 +69,7 @@ fn at_width(bits: usize)
     requires { ⌜ (1 ≤ bits) × (bits ≤ 64) ⌝ }
 {
     expands(bits);
+    zeros_expand(bits);
     crypts(bits, false);
     crypts(bits, true);
     check_values(bits);
@@ -57,4 +79,5 @@ fn main() {
     at_width(32);
     at_width(64);
     doors();
+    zeros_at_door();
 }

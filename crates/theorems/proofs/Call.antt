@@ -11,7 +11,7 @@ pub record Call : Type 1 where
   pub Args : Type 0
   -- arguments and a buffer that can be lent: bytes, and words of the width
   pub Fits : Args → List ℕ → Type 0
-  -- and for which it is to be answered: the right lengths
+  -- and for which it is to be answered: the right lengths, and a key that is not all zeros
   pub Good : Args → List ℕ → Type 0
   -- what the code is proved to meet (crates/calls)
   pub promise : Args → List ℕ → Outcome (List ℕ)
@@ -42,7 +42,7 @@ module _ (C : Call) where
   pub refusal-changes-nothing : (a : C .Args) (o : List ℕ) {r : ℕ} {x : List ℕ} → answers r x ≡ C .promise a o → (r ≡ 0 → ⊥) → x ≡ o
   refusal-changes-nothing a o {r} {x} e h = C .keeping a o .keeps r x e h
 
-  -- 0 is answered exactly for the right lengths: only then,
+  -- 0 is answered exactly where it is to be: only then,
   pub answers-0-only : (a : C .Args) (o : List ℕ) {r : ℕ} {x : List ℕ} → answers r x ≡ C .promise a o → r ≡ 0 → C .Good a o
   answers-0-only a o {r} {x} e z = C .only a o x (rw z at e)
 
@@ -68,6 +68,15 @@ module _ (C : Call) where
 
   abbrev pub Refuted : Program → Type 0
   Refuted P = Meets P → ⊥
+
+  -- or on all calls that can be made, those that are to be refused too: one that answers these is wrong, however right it is on the others
+  abbrev pub MeetsAll : Program → Type 0
+  MeetsAll P = (a : C .Args) (o : List ℕ) → C .Fits a o → P a o ≡ C .promise a o
+
+  -- one that answers 0 where the call is not to be answered, whatever it writes
+  pub takes-too-much : {a : C .Args} {o : List ℕ} → C .Fits a o → (C .Good a o → ⊥)
+      → (P : Program) {x : List ℕ} → P a o ≡ answers 0 x → MeetsAll P → ⊥
+  takes-too-much {a} {o} fits h P {x} e m = h (C .only a o x (sym e ∙ m a o fits))
 
   agreed : {P : Program} → Meets P → {a : C .Args} {o : List ℕ} → Can C a o → P a o ≡ answers 0 (C .result a)
   agreed m {a} {o} can = m a o can ∙ C .taken a o (can .good)

@@ -3,15 +3,16 @@
 -- promise is the one that the code of crates/aes and crates/host is proved to meet. Demand 1 is `answer-settled`, `answers-0`, `answers-0-only` and
 -- `refusal-changes-nothing` of Call.antt, for every call. Assumes nothing.
 use mathlib.Core.Path.{_≡_, refl, sym, _∙_, ap, ap₂}
+use mathlib.Core.Bool.{true, false}
 use mathlib.Core.List.{List}
-use Prim.Native.Nat.{ℕ, _+_, _*_, _≤_, _<_}
+use Prim.Native.Nat.{ℕ, zero, suc, _+_, _*_, _≤_, _<_}
 use native.Mathlib.Omega.{arith}
 use lib.Dec.{lit<, lit≤}
-use lib.ListN.{length, take, replicate}
+use lib.ListN.{length, take, replicate, length-replicate, length-map}
 use Rattle.fips197.specs.Bytes.{Fit, Data}
-use Rattle.fips197.specs.Aes.{sixteen, cipher, invCipher, keyExpansion, roundsFor}
+use Rattle.fips197.specs.Aes.{range, sixteen, cipher, invCipher, keyWords, keyExpansion, roundsFor}
 use Rattle.fips197.proofs.Ciphers.{Blocks}
-use Rattle.fips197.proofs.Keys.{expansion-blocks}
+use Rattle.fips197.proofs.Keys.{expansion-blocks, expansion-one}
 use Rattle.lanes.specs.Layout.{Width, w32, w64, bits, slots}
 use Rattle.lanes.specs.Sizes.{keySize, scheduleSize}
 use Rattle.lanes.specs.Schedule.{reading, scheduleOf, eachBlock, cryptedBatch}
@@ -19,12 +20,15 @@ use Rattle.lanes.proofs.Sizes.{Found, key-found}
 use Rattle.lanes.proofs.EachBlock.{Keeping, each-at, each-data, each-undone}
 use Rattle.schedule.proofs.Reading.{schedule-length, schedule-fits, schedule-reads, schedule-only, schedule-one}
 use Rattle.cipher.proofs.Batches.{Way, forth, backwards, crypted-slot, crypted-data, crypted-undone, crypted-one}
-use Rattle.calls.specs.Calls.{keyWordsOf, scheduleWords, roundsOf, keysOf, keysIn, checkValue, directed}
+use Rattle.outcome.specs.Outcome.{answers}
+use Rattle.outcome.proofs.Laws.{is-not, stop, pass, settled}
+use Rattle.calls.specs.Calls.{keyWordsOf, zeroKey, scheduleWords, roundsOf, keysOf, keysIn, expandOutcome, checkValue, directed, doorOutcome}
+use Rattle.calls.proofs.ZeroKey.{no-zeros}
 use Rattle.theorems.proofs.Call.{Made, leaves, can-make}
 use Rattle.theorems.proofs.Calls.{expandCall, cryptCall}
 use Rattle.theorems.proofs.Calls.{checkCall, doorCall}
 
--- ---- demand 2: an expansion reads as FIPS-197's round keys
+-- ---- demand 2: an expansion, of a key that is not all zeros, reads as FIPS-197's round keys
 abbrev pub Expands : Width → List ℕ → List ℕ → Type 0
 Expands w key x = Made (expandCall w) key x
 
@@ -87,6 +91,55 @@ two-keys-two-schedules {w} {k} {l} e c d =
     let n : keyWordsOf l ≡ keyWordsOf k = ap (λ (n : ℕ). keySize n .nk) (sym e) in
     schedule-one w (keyWordsOf k) k l (some c) (most c) (long c) (c .can .fits .key-bytes) (sym e ∙ long c) (d .can .fits .key-bytes)
     (sym (expanded c) ∙ expanded d ∙ ap (λ (m : ℕ). scheduleOf w m l) n)
+
+-- ---- A KEY OF ZEROS IS NO KEY: where a key has a right length and is all zeros, 6 is answered, whatever else is wrong, and what was lent stays
+module _ (key : List ℕ) (keyed : keyWordsOf key ≡ 0 → ⊥) (zeros : zeroKey key ≡ true) where
+  pub expand-refuses-zeros : (w : Width) (s : List ℕ) {r : ℕ} {x : List ℕ} → answers r x ≡ expandOutcome w key s → (r ≡ 6) × (x ≡ s)
+  unfolding expandOutcome
+  expand-refuses-zeros w s e = settled e (pass 1 s (is-not keyed) (stop 6 s _ zeros))
+
+  pub door-refuses-zeros : (d : ℕ) (i o : List ℕ) {r : ℕ} {x : List ℕ} → answers r x ≡ doorOutcome d key i o → (r ≡ 6) × (x ≡ o)
+  unfolding doorOutcome
+  door-refuses-zeros d i o e = settled e (pass 1 o (is-not keyed) (stop 6 o _ zeros))
+
+-- what may be called a key
+pub record Key (key : List ℕ) : Type 0 where
+  pub right-length : keyWordsOf key ≡ 0 → ⊥
+  pub not-zero : zeroKey key ≡ false
+  pub bytes : Fit 8 key
+
+-- the round keys of a key, and those of n words of zeros
+abbrev pub roundKeys : List ℕ → List (List ℕ)
+roundKeys key = keyExpansion (keyWordsOf key) key
+
+abbrev pub zeroRoundKeys : ℕ → List (List ℕ)
+zeroRoundKeys n = keyExpansion n (replicate (4 * n) 0)
+
+-- as many as rounds, and one
+range-length : (i n : ℕ) → length (range i n) ≡ n
+range-length i zero = refl
+range-length i (suc n) = ap suc (range-length (suc i) n)
+
+keys-length : (n : ℕ) (key : List ℕ) → length (keyExpansion n key) ≡ n + 7
+unfolding keyExpansion
+keys-length n key = length-map (range 0 (roundsFor n + 1)) (sixteen (keyWords n key)) ∙ range-length 0 (roundsFor n + 1) ∙ omega arith
+
+-- what is called a key has others than zeros, however many these are
+key-is-not-zeros : {key : List ℕ} → Key key → (n : ℕ) → roundKeys key ≡ zeroRoundKeys n → ⊥
+unfolding keyWordsOf
+key-is-not-zeros {key} k n e =
+    let f = key-found (length key) (k .right-length) in
+    let same : keyWordsOf key ≡ n = omega (arith, sym (keys-length (keyWordsOf key) key) ∙ ap length e ∙ keys-length n (replicate (4 * n) 0)) in
+    no-zeros key (k .not-zero) (4 * n)
+    (expansion-one (keyWordsOf key) key (replicate (4 * n) 0) (f .sized .some) (f .sized .most) (f .at) (length-replicate (4 * n) 0 ∙ omega (arith, same))
+    (e ∙ ap (λ (m : ℕ). keyExpansion m (replicate (4 * n) 0)) (sym same)))
+
+-- so NO CALL MAKES THE SCHEDULE OF A KEY OF ZEROS: what expand leaves reads so in no slot. (Of the door: `door-uses-no-zero-schedule`.)
+expand-key : {w : Width} {key x : List ℕ} → Expands w key x → Key key
+expand-key m = record { right-length = m .can .good .keyed; not-zero = m .can .good .not-zero; bytes = m .can .fits .key-bytes }
+
+pub expand-makes-no-zero-schedule : {w : Width} {key x : List ℕ} → Expands w key x → (n b : ℕ) → b < slots w → keysIn w x b ≡ zeroRoundKeys n → ⊥
+expand-makes-no-zero-schedule m n b h e = key-is-not-zeros (expand-key m) n (sym (expand-reads m b h) ∙ e)
 
 -- ---- demand 3: for ANY words of the right number as a schedule, and any full batch
 abbrev pub Batch : Width → List ℕ → Type 0
@@ -232,26 +285,21 @@ check-under-key {w} e m = leaves (checkCall w) m ∙ ap (λ (ks : List (List ℕ
 abbrev pub Doors : ℕ → List ℕ → List ℕ → List ℕ → Type 0
 Doors d key i x = Made (doorCall d) (record { key = key; input = i }) x
 
--- the round keys of a key
-abbrev pub roundKeys : List ℕ → List (List ℕ)
-roundKeys key = keyExpansion (keyWordsOf key) key
-
--- what may be called a key
-pub record Key (key : List ℕ) : Type 0 where
-  pub right-length : keyWordsOf key ≡ 0 → ⊥
-  pub bytes : Fit 8 key
-
 pub keys-of : {key : List ℕ} → Key key → Blocks (roundKeys key)
 unfolding keyWordsOf
 keys-of {key} k =
     let f = key-found (length key) (k .right-length) in
     expansion-blocks (keyWordsOf key) key (f .sized .some) (f .at) (k .bytes)
 
+-- whatever its direction, an answered call has a key, and not the round keys of zeros
+door-key : (d : ℕ) {key i x : List ℕ} → Doors d key i x → Key key
+door-key d m = record { right-length = m .can .good .keyed; not-zero = m .can .good .not-zero; bytes = m .can .fits .key-bytes }
+
+pub door-uses-no-zero-schedule : (d : ℕ) {key i x : List ℕ} → Doors d key i x → (n : ℕ) → roundKeys key ≡ zeroRoundKeys n → ⊥
+door-uses-no-zero-schedule d m n e = key-is-not-zeros (door-key d m) n e
+
 -- a direction d that is the way v through the cipher: 0 is forth, 1 is backwards
 module _ (d : ℕ) (v : Way) (way : directed d ≡ v .go) {key : List ℕ} where
-  door-key : {i x : List ℕ} → Doors d key i x → Key key
-  door-key m = record { right-length = m .can .good .keyed; bytes = m .can .fits .key-bytes }
-
   door-input : {i x : List ℕ} → Doors d key i x → Batch w64 i
   door-input m = record { long = m .can .good .full-input; bytes = m .can .fits .input-bytes }
 
@@ -262,10 +310,10 @@ module _ (d : ℕ) (v : Way) (way : directed d ≡ v .go) {key : List ℕ} where
   door-left {i} m = leaves (doorCall d) m ∙ ap (λ (c : List (List ℕ) → List ℕ → List ℕ). eachBlock w64 (λ slot. c (roundKeys key)) (slots w64) i) way
 
   pub door-is : {i x : List ℕ} → Doors d key i x → (b : ℕ) → b < slots w64 → sixteen x b ≡ v .go (roundKeys key) (sixteen i b)
-  door-is m b h = ap (λ (l : List ℕ). sixteen l b) (door-left m) ∙ each-at w64 (door-keeping (door-key m)) (door-input m) b h
+  door-is m b h = ap (λ (l : List ℕ). sixteen l b) (door-left m) ∙ each-at w64 (door-keeping (door-key d m)) (door-input m) b h
 
   door-output : {i x : List ℕ} → Doors d key i x → Batch w64 x
-  door-output m = rw (door-left m) (each-data w64 (door-keeping (door-key m)) (door-input m))
+  door-output m = rw (door-left m) (each-data w64 (door-keeping (door-key d m)) (door-input m))
 
   -- a call in this direction, if it comes to be made, leaves this
   door-can : {i : List ℕ} → d ≤ 1 → Key key → Batch w64 i → Doors d key i (eachBlock w64 (λ slot. v .go (roundKeys key)) (slots w64) i)
@@ -273,14 +321,14 @@ module _ (d : ℕ) (v : Way) (way : directed d ≡ v .go) {key : List ℕ} where
       can-make (doorCall d) {o = i}
       (record {
         fits = record { key-bytes = k .bytes; input-bytes = y .bytes; buffer-bytes = y .bytes };
-        good = record { keyed = k .right-length; full-input = y .long; full-output = y .long; direction = le };
+        good = record { keyed = k .right-length; not-zero = k .not-zero; full-input = y .long; full-output = y .long; direction = le };
       })
       (ap (λ (c : List (List ℕ) → List ℕ → List ℕ). eachBlock w64 (λ slot. c (roundKeys key)) (slots w64) i) (sym way))
 
 -- the direction e that is v's way back undoes it
 door-undone : (d e : ℕ) (v : Way) → directed d ≡ v .go → directed e ≡ v .back → {key i x y : List ℕ} → Doors d key i x → Doors e key x y → y ≡ i
 door-undone d e v p q {key} {i} {x} m n =
-    let k = door-key d v p m in
+    let k = door-key d m in
     leaves (doorCall e) n
     ∙ ap (λ (c : List (List ℕ) → List ℕ → List ℕ). eachBlock w64 (λ slot. c (roundKeys key)) (slots w64) x) q
     ∙ ap (eachBlock w64 (λ slot. v .back (roundKeys key)) (slots w64)) (door-left d v p m)
@@ -311,12 +359,12 @@ module _ {key : List ℕ} where
   -- what a direction finds, the other leads back, and no other batch does: so each is one-to-one and onto
   door-finds-0 : {x y : List ℕ} → Doors 1 key x y → Doors 0 key y x
   door-finds-0 m =
-      let found = door-can 0 forth refl (lit≤ tt) (door-key 1 backwards refl m) (door-output 1 backwards refl m) in
+      let found = door-can 0 forth refl (lit≤ tt) (door-key 1 m) (door-output 1 backwards refl m) in
       rw (door-0-undoes-1 m found) at found
 
   door-finds-1 : {x y : List ℕ} → Doors 0 key x y → Doors 1 key y x
   door-finds-1 m =
-      let found = door-can 1 backwards refl (lit≤ tt) (door-key 0 forth refl m) (door-output 0 forth refl m) in
+      let found = door-can 1 backwards refl (lit≤ tt) (door-key 0 m) (door-output 0 forth refl m) in
       rw (door-1-undoes-0 m found) at found
 
   -- one-to-one

@@ -1,6 +1,7 @@
 -- Calls that can be made, and what they leave, computed: the key of FIPS-197's appendix A.1, and batches of zeros but for their first byte. The
 -- wrong programs are refuted on these. Assumes nothing.
 use mathlib.Core.Path.{_≡_, refl, _∙_, ap}
+use mathlib.Core.Bool.{false}
 use mathlib.Core.List.{List, [], _∷_}
 use Prim.Native.Nat.{ℕ, zero, suc, _-_, _*_, _%_, _^_, _≤_, _<_}
 use native.Mathlib.Nat.{zero-add}
@@ -18,10 +19,10 @@ use Rattle.lanes.specs.Sizes.{keySize}
 use Rattle.lanes.specs.Schedule.{scheduleOf, eachBlock}
 use Rattle.lanes.proofs.EqualParts.{joined-at}
 use Rattle.schedule.proofs.Reading.{schedule-fits}
-use Rattle.calls.specs.Calls.{keyWordsOf, scheduleWords, roundsOf, keysIn}
+use Rattle.calls.specs.Calls.{keyWordsOf, zeroKey, scheduleWords, roundsOf, keysIn}
 use Rattle.theorems.proofs.Call.{Can, can-make}
 use Rattle.theorems.proofs.Calls.{CryptArgs, DoorArgs, expandCall, cryptCall, checkCall, doorCall}
-use Rattle.theorems.proofs.Theorems.{Expands, expand-rounds, expand-reads}
+use Rattle.theorems.proofs.Theorems.{Expands, Key, expand-rounds, expand-reads}
 
 -- ---- blocks and batches: x, and then zeros
 abbrev pub zero-block : List ℕ
@@ -70,7 +71,11 @@ pub record Sample : Type 0 where
   pub keys : List (List ℕ)
   pub fits : Fit 8 key
   pub keyed : keyWordsOf key ≡ 0 → ⊥
+  pub not-zero : zeroKey key ≡ false
   pub expansion : keyExpansion (keyWordsOf key) key ≡ keys
+
+pub sample-key : (k : Sample) → Key (k .key)
+sample-key k = record { right-length = k .keyed; not-zero = k .not-zero; bytes = k .fits }
 
 -- the keys of appendices A.1 and A.3
 pub words-A1 : keyWordsOf keyA1 ≡ 4
@@ -89,12 +94,21 @@ pub fits-A3 : Fit 8 keyA3
 unfolding keyA3
 fits-A3 = fit-test 8 keyA3 tt
 
+pub not-zero-A1 : zeroKey keyA1 ≡ false
+unfolding zeroKey keyA1
+not-zero-A1 = refl
+
+pub not-zero-A3 : zeroKey keyA3 ≡ false
+unfolding zeroKey keyA3
+not-zero-A3 = refl
+
 unfoldable pub A1 : Sample
 A1 = record {
   key = keyA1;
   keys = roundKeysA1;
   fits = fits-A1;
   keyed = λ e. omega (arith, words-A1);
+  not-zero = not-zero-A1;
   expansion = ap (λ (n : ℕ). keyExpansion n keyA1) words-A1 ∙ expansion-A1;
 }
 
@@ -104,6 +118,7 @@ A3 = record {
   keys = roundKeysA3;
   fits = fits-A3;
   keyed = λ e. omega (arith, words-A3);
+  not-zero = not-zero-A3;
   expansion = ap (λ (n : ℕ). keyExpansion n keyA3) words-A3 ∙ expansion-A3;
 }
 
@@ -116,12 +131,17 @@ pub words-ones : keyWordsOf (replicate 16 1) ≡ 4
 unfolding keyWordsOf keySize
 words-ones = refl
 
+not-zero-ones : zeroKey (replicate 16 1) ≡ false
+unfolding zeroKey
+not-zero-ones = refl
+
 pub ones : Sample
 ones = record {
   key = replicate 16 1;
   keys = keyExpansion (keyWordsOf (replicate 16 1)) (replicate 16 1);
   fits = fit-replicate 16 (lit< tt);
   keyed = λ e. omega (arith, words-ones);
+  not-zero = not-zero-ones;
   expansion = refl;
 }
 
@@ -129,7 +149,7 @@ pub ones-key : ones .key ≡ replicate 16 1
 unfolding ones
 ones-key = refl
 
-small : (w : Width) {y : ℕ} → y < 2 → y < 2 ^ bits w
+pub small : (w : Width) {y : ℕ} → y < 2 → y < 2 ^ bits w
 small w32 h = omega arith
 small w64 h = omega arith
 
@@ -141,7 +161,7 @@ module _ (w : Width) (k : Sample) where
   pub can-expand : (y : ℕ) → y < 2 → Can (expandCall w) (k .key) (room y)
   can-expand y h = record {
     fits = record { key-bytes = k .fits; buffer-words = fit-replicate (scheduleWords (k .key)) (small w h) };
-    good = record { keyed = k .keyed; room = length-replicate (scheduleWords (k .key)) y };
+    good = record { keyed = k .keyed; not-zero = k .not-zero; room = length-replicate (scheduleWords (k .key)) y };
   }
 
   unfoldable pub words : List ℕ
@@ -192,7 +212,7 @@ module _ (k : Sample) where
       let o = batch-data w64 y l in
       record {
         fits = record { key-bytes = k .fits; input-bytes = i .bytes; buffer-bytes = o .bytes };
-        good = record { keyed = k .keyed; full-input = i .long; full-output = o .long; direction = le };
+        good = record { keyed = k .keyed; not-zero = k .not-zero; full-input = i .long; full-output = o .long; direction = le };
       }
 
 -- ---- what they leave, computed: the first byte of a block

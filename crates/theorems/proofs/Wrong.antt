@@ -1,32 +1,38 @@
 -- PROGRAMS THAT ARE WRONG CANNOT MEET THE PROMISES: one that refuses everything, one that writes the same bytes each time, one that copies its
 -- input, one that writes nothing and answers 0, one that does the first round and skips the rest, one that fills every slot from slot 0; of each
--- call, and of the door in both directions. Each is refuted on a call that can be made (Witness.antt). docs/PROMISES.md has the table. Assumes nothing.
+-- call, and of the door in both directions. Each is refuted on a call that can be made (Witness.antt). And, at the end, one that takes a key of zeros.
+-- docs/PROMISES.md has the table. Assumes nothing.
 use mathlib.Core.Path.{_≡_, refl, sym, _∙_, ap, ap₂}
+use mathlib.Core.Bool.{not, _||_}
 use mathlib.Core.List.{List, [], _++_}
 use Prim.Native.Nat.{ℕ, _+_, _-_, _*_, _/_, _%_, _≤_, _<_}
 use native.Mathlib.Nat.{mod-eq-of-lt}
 use native.Mathlib.Omega.{arith}
-use lib.Dec.{lit<, lit≤}
+use lib.Dec.{eqb, lit<, lit≤}
 use lib.ListN.{length, getD, take, drop, replicate, getD-replicate, length-replicate}
 use lib.Seq.{getD-drop, getD-append-add, getD-take, length-take-le}
+use Rattle.fips197.specs.Bytes.{Fit}
 use Rattle.fips197.specs.Aes.{sixteen, shiftRows, cipher, invCipher}
 use Rattle.appendices.proofs.Examples.{keyA1, roundKeysA1}
-use Rattle.lanes.specs.Layout.{Width, w32, w64, slots, slot}
+use Rattle.lanes.specs.Layout.{Width, w32, w64, bits, slots, slot}
 use Rattle.lanes.specs.Sizes.{keySize, scheduleSize}
 use Rattle.lanes.specs.Schedule.{wordsAt, stored, add63, rowsShifted, readKey, reading, scheduleOf, eachBlock}
 use Rattle.lanes.proofs.EachBlock.{some-slot, block-of}
 use Rattle.schedule.proofs.Reading.{schedule-length, schedule-one}
 use Rattle.cipher.proofs.Batches.{Way, forth, backwards, keys}
-use Rattle.outcome.specs.Outcome.{answers}
+use Rattle.outcome.specs.Outcome.{Outcome, answers, refuse}
 use Rattle.outcome.proofs.Laws.{same-number, same-left, is-not}
 use Rattle.calls.specs.Calls.{keyWordsOf, scheduleWords, roundsOf, keysOf, keysIn, checkValue, directed, doorOutcome}
-use Rattle.theorems.proofs.Call.{Call, Can, Refuted, can-make, refuses-everything, writes-another, writes-the-same, writes-by-buffer}
-use Rattle.theorems.proofs.Calls.{CryptArgs, DoorArgs, expandCall, cryptCall, encryptCall, decryptCall, checkCall, doorCall}
+use Rattle.calls.proofs.Directions.{one-of}
+use Rattle.calls.proofs.ZeroKey.{no-zeros}
+use Rattle.theorems.proofs.Call.{Call, Can, Program, MeetsAll, Refuted, can-make, refuses-everything, writes-another, writes-the-same}
+use Rattle.theorems.proofs.Call.{writes-by-buffer, takes-too-much}
+use Rattle.theorems.proofs.Calls.{CryptArgs, DoorArgs, expandCall, cryptCall, encryptCall, decryptCall, checkCall, doorCall, doorResult}
 use Rattle.theorems.proofs.Theorems.{crypt-is, door-is, keys-of, roundKeys}
 use Rattle.theorems.proofs.Witness.{zero-block, one-block, batch, batch-data, block-0, block-1, slot-1, first, block-at, Sample, A1, A3, ones}
 use Rattle.theorems.proofs.Witness.{words-A1, words-ones, ones-key, room, can-expand, words, keys-are, crypt-args, can-crypt, can-check, door-args}
 use Rattle.theorems.proofs.Witness.{can-door, firstRound, firstUnround, first-round-length, first-unround-length, cipher-one, cipher-zero}
-use Rattle.theorems.proofs.Witness.{invCipher-one, invCipher-zero, round-one, round-zero, unround-one, cipher-zero-A3}
+use Rattle.theorems.proofs.Witness.{sample-key, fit-replicate, small, invCipher-one, invCipher-zero, round-one, round-zero, unround-one, cipher-zero-A3}
 
 -- whatever numbers a program refuses with
 abbrev pub RefusesAll : Call → Type 0
@@ -292,7 +298,7 @@ module _ (n : ℕ) (le : n ≤ 1) (d : Direction) (is : directed n ≡ d .way .g
       ∙ ap₂ (d .way .go) (A1 .expansion) (block-0 w64 1))
     where
       long : length (d .way .go (roundKeys (A1 .key)) (sixteen (batch w64 1) 0)) ≡ 16
-      long = d .way .go-block (keys-of (record { right-length = A1 .keyed; bytes = A1 .fits })) (block-of (batch-data w64 1 (lit< tt)) 0 (some-slot w64)) .long
+      long = d .way .go-block (keys-of (sample-key A1)) (block-of (batch-data w64 1 (lit< tt)) 0 (some-slot w64)) .long
 
 door-0 : BlockCall (doorCall 0)
 unfolding encryption
@@ -348,7 +354,7 @@ door-1-fills-from-slot-0 = door-slot-0 1 (lit≤ tt) decryption refl
 pub door-direction-2 : (x : List ℕ) → answers 0 x ≡ doorOutcome 2 (A1 .key) (batch w64 0) (batch w64 0) → ⊥
 unfolding doorOutcome batch
 door-direction-2 x e =
-    let five : doorOutcome 2 (A1 .key) (batch w64 0) (batch w64 0) ≡ answers 5 (batch w64 0) = rw (is-not (A1 .keyed)) in
+    let five : doorOutcome 2 (A1 .key) (batch w64 0) (batch w64 0) ≡ answers 5 (batch w64 0) = rw (is-not (A1 .keyed), A1 .not-zero) in
     let z : _≡_ {A = ℕ} 0 5 = same-number (e ∙ five) in
     omega arith
 
@@ -495,3 +501,41 @@ module _ (w : Width) where
           getD-take 3 (firstRound (keysIn w (words w A1) 0) zero-block) 0 0 (lit< tt)
           ∙ ap (λ (ks : List (List ℕ)). getD (firstRound ks zero-block) 0 0) (keys-are w A1 0 (some-slot w))
           ∙ round-zero
+
+-- ---- a key of zeros: a program that answers 0 is wrong, whatever it writes, at either width and by the door. Such a call is to be refused, so it is
+-- asked of a program that it agrees on all calls that can be made. Among the wrong ones are the promises as they were before, without a test for zeros
+module _ (w : Width) where
+  -- n zeros as the key, in any buffer that can be lent
+  pub expand-takes-zeros : (n : ℕ) {s : List ℕ} → Fit (bits w) s → (P : Program (expandCall w)) {x : List ℕ} → P (replicate n 0) s ≡ answers 0 x
+      → MeetsAll (expandCall w) P → ⊥
+  expand-takes-zeros n f P e = takes-too-much (expandCall w) (record { key-bytes = fit-replicate n (lit< tt); buffer-words = f })
+      (λ g. no-zeros (replicate n 0) (g .not-zero) n refl) P e
+
+  abbrev pub expandBefore : List ℕ → List ℕ → Outcome (List ℕ)
+  expandBefore key s =
+      refuse (eqb (keyWordsOf key) 0) 1 s (refuse (not (eqb (length s) (scheduleWords key))) 2 s (answers 0 (scheduleOf w (keyWordsOf key) key)))
+
+  pub expand-as-before : MeetsAll (expandCall w) expandBefore → ⊥
+  unfolding keyWordsOf scheduleWords keySize
+  expand-as-before = expand-takes-zeros 16 (fit-replicate {y = 0} 88 (small w (lit< tt))) expandBefore refl
+
+module _ (d : ℕ) where
+  pub door-takes-zeros : (n : ℕ) {i o : List ℕ} → Fit 8 i → Fit 8 o → (P : Program (doorCall d)) {x : List ℕ}
+      → P (record { key = replicate n 0; input = i }) o ≡ answers 0 x → MeetsAll (doorCall d) P → ⊥
+  door-takes-zeros n f g P e = takes-too-much (doorCall d) (record { key-bytes = fit-replicate n (lit< tt); input-bytes = f; buffer-bytes = g })
+      (λ good. no-zeros (replicate n 0) (good .not-zero) n refl) P e
+
+  abbrev pub doorBefore : DoorArgs → List ℕ → Outcome (List ℕ)
+  doorBefore a o =
+      refuse (eqb (keyWordsOf (a .key)) 0) 1 o
+      (refuse (not (eqb (length (a .input)) (16 * slots w64))) 3 o
+      (refuse (not (eqb (length o) (16 * slots w64))) 4 o
+      (refuse (not (eqb d 0 || eqb d 1)) 5 o (answers 0 (doorResult d a)))))
+
+  pub door-as-before : d ≤ 1 → MeetsAll (doorCall d) doorBefore → ⊥
+  unfolding keyWordsOf keySize
+  door-as-before le =
+      let f : Fit 8 (replicate 64 0) = fit-replicate 64 (lit< tt) in
+      let a : DoorArgs = record { key = replicate 32 0; input = replicate 64 0 } in
+      let taken : doorBefore a (replicate 64 0) ≡ answers 0 (doorResult d a) = rw (one-of d le) in
+      door-takes-zeros 32 f f doorBefore taken

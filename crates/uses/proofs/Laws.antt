@@ -10,21 +10,21 @@ use lib.Seq.{take-take}
 use Rattle.fips197.specs.Bytes.{Fit}
 use Rattle.lanes.specs.Layout.{Width, w64, bits, slots}
 use Rattle.outcome.specs.Outcome.{answers}
-use Rattle.calls.specs.Calls.{keyWordsOf, scheduleWords, roundsOf, expandOutcome, encryptOutcome, decryptOutcome, checkOutcome, doorOutcome}
+use Rattle.calls.specs.Calls.{scheduleWords, roundsOf, expandOutcome, encryptOutcome, decryptOutcome, checkOutcome, doorOutcome}
 use Rattle.theorems.proofs.Call.{answers-0, answers-0-only, refusal-changes-nothing}
 use Rattle.theorems.proofs.Calls.{expandCall, encryptCall, decryptCall, checkCall, doorCall}
 use Rattle.theorems.proofs.Theorems.{Expands, Encrypts, Decrypts, Checks, Doors, door-0-batch, door-1-undoes-0}
-use Rattle.theorems.proofs.Theorems.{expand-schedule, encrypt-batch, decrypt-undoes-encrypt, check-is-slot-0}
-use Rattle.uses.specs.Promises.{Batches, Back, DoorBack, ScheduleBack, Agrees, Refused}
+use Rattle.theorems.proofs.Theorems.{expand-refuses-zeros, door-refuses-zeros, expand-schedule, encrypt-batch, decrypt-undoes-encrypt, check-is-slot-0}
+use Rattle.uses.specs.Promises.{Taken, Batches, Back, DoorBack, ScheduleBack, Agrees, Refused, Destroyed}
 
 -- ---- the door
 module _ (key i s o : List ℕ) (k : Fit 8 key) (b : Fit 8 i) (e : Fit 8 s) (f : Fit 8 o) where
-  sealing : {r : ℕ} {x : List ℕ} → answers r x ≡ doorOutcome 0 key i s → (keyWordsOf key ≡ 0 → ⊥) → Batches w64 i s o → Doors 0 key i x
+  sealing : {r : ℕ} {x : List ℕ} → answers r x ≡ doorOutcome 0 key i s → Taken key → Batches w64 i s o → Doors 0 key i x
   sealing {r} a p q = record {
     buffer = s;
     can = record {
       fits = record { key-bytes = k; input-bytes = b; buffer-bytes = e };
-      good = record { keyed = p; full-input = q .input; full-output = q .sealed; direction = lit≤ tt };
+      good = record { keyed = p .keyed; not-zero = p .not-zero; full-input = q .input; full-output = q .sealed; direction = lit≤ tt };
     };
     number = r;
     answer = a;
@@ -37,7 +37,7 @@ module _ (key i s o : List ℕ) (k : Fit 8 key) (b : Fit 8 i) (e : Fit 8 s) (f :
   pub door-back : {r₀ r : ℕ} {x y : List ℕ} → answers r₀ x ≡ doorOutcome 0 key i s → answers r y ≡ doorOutcome 1 key x o → DoorBack key i s o r y
   door-back {r₀} {r} {x} {y} a c = record { back = back }
     where
-      back : (keyWordsOf key ≡ 0 → ⊥) → Batches w64 i s o → Back r i y
+      back : Taken key → Batches w64 i s o → Back r i y
       back p q =
           let m = sealing a p q in
           let d = door-0-batch m in
@@ -45,7 +45,7 @@ module _ (key i s o : List ℕ) (k : Fit 8 key) (b : Fit 8 i) (e : Fit 8 s) (f :
             buffer = o;
             can = record {
               fits = record { key-bytes = k; input-bytes = d .bytes; buffer-bytes = f };
-              good = record { keyed = p; full-input = d .long; full-output = q .opened; direction = lit≤ tt };
+              good = record { keyed = p .keyed; not-zero = p .not-zero; full-input = d .long; full-output = q .opened; direction = lit≤ tt };
             };
             number = r;
             answer = c;
@@ -58,10 +58,17 @@ door-refuses key i o {r} a =
     let none : r ≡ 0 → ⊥ = λ z. let le : 2 ≤ 1 = answers-0-only (doorCall 2) (record { key = key; input = i }) o a z .direction in omega arith in
     record { refused = none; kept = refusal-changes-nothing (doorCall 2) (record { key = key; input = i }) o a none }
 
+-- a key of zeros
+pub door-destroyed : (d : ℕ) (key i o : List ℕ) {r : ℕ} {x : List ℕ} → answers r x ≡ doorOutcome d key i o → Destroyed key o r x
+door-destroyed d key i o a = record { destroyed = λ p z. door-refuses-zeros key p z d i o a }
+
+pub expand-destroyed : (w : Width) (key s : List ℕ) {r : ℕ} {x : List ℕ} → answers r x ≡ expandOutcome w key s → Destroyed key s r x
+expand-destroyed w key s a = record { destroyed = λ p z. expand-refuses-zeros key p z w s a }
+
 -- ---- by a schedule, at each width
 -- the key, the room for its schedule, and full batches
 record Good (w : Width) (key l i s o : List ℕ) : Type 0 where
-  keyed : keyWordsOf key ≡ 0 → ⊥
+  taken : Taken key
   room : length l ≡ scheduleWords key
   full : Batches w i s o
 
@@ -69,7 +76,10 @@ module _ (w : Width) (key l i s o : List ℕ) (k : Fit 8 key) (g : Fit (bits w) 
   expanding : {r : ℕ} {x : List ℕ} → answers r x ≡ expandOutcome w key l → Good w key l i s o → Expands w key x
   expanding {r} a h = record {
     buffer = l;
-    can = record { fits = record { key-bytes = k; buffer-words = g }; good = record { keyed = h .keyed; room = h .room } };
+    can = record {
+      fits = record { key-bytes = k; buffer-words = g };
+      good = record { keyed = h .taken .keyed; not-zero = h .taken .not-zero; room = h .room };
+    };
     number = r;
     answer = a;
   }
@@ -89,16 +99,16 @@ module _ (w : Width) (key l i s o : List ℕ) (k : Fit 8 key) (g : Fit (bits w) 
 
   pub expand-stops : {r : ℕ} {x : List ℕ} → answers r x ≡ expandOutcome w key l → (r ≡ 0 → ⊥) → ScheduleBack w key l i s o r o
   unfolding expanding
-  expand-stops a z = record { back = λ p q t. absurd (z (answers-0 (expandCall w) (expanding a (record { keyed = p; room = q; full = t })))) }
+  expand-stops a z = record { back = λ p q t. absurd (z (answers-0 (expandCall w) (expanding a (record { taken = p; room = q; full = t })))) }
 
   pub encrypt-stops : {r₀ r : ℕ} {x y : List ℕ} → answers r₀ x ≡ expandOutcome w key l → answers r y ≡ encryptOutcome w x i s → (r ≡ 0 → ⊥)
       → ScheduleBack w key l i s o r o
   unfolding encrypting
-  encrypt-stops a c z = record { back = λ p q t. absurd (z (answers-0 (encryptCall w) (encrypting a c (record { keyed = p; room = q; full = t })))) }
+  encrypt-stops a c z = record { back = λ p q t. absurd (z (answers-0 (encryptCall w) (encrypting a c (record { taken = p; room = q; full = t })))) }
 
   pub schedule-back : {r₀ r₁ r : ℕ} {x y v : List ℕ} → answers r₀ x ≡ expandOutcome w key l → answers r₁ y ≡ encryptOutcome w x i s
       → answers r v ≡ decryptOutcome w x y o → ScheduleBack w key l i s o r v
-  schedule-back {r = r} {x = x} {y = y} {v = v} a c u = record { back = λ p q t. back (record { keyed = p; room = q; full = t }) }
+  schedule-back {r = r} {x = x} {y = y} {v = v} a c u = record { back = λ p q t. back (record { taken = p; room = q; full = t }) }
     where
       back : Good w key l i s o → Back r i v
       back h =

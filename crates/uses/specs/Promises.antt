@@ -1,12 +1,19 @@
--- What functions over the exported calls promise, where the lengths are right: they follow from the contracts of crate host alone.
+-- What functions over the exported calls promise, where lengths and keys are right, and where a key is zeros: it follows from the contracts of crate host
+-- alone.
 use mathlib.Core.Path.{_≡_}
+use mathlib.Core.Bool.{true, false}
 use mathlib.Core.List.{List}
 use Prim.Native.Nat.{ℕ, _*_}
 use lib.ListN.{length, take}
 use Rattle.lanes.specs.Layout.{Width, w64, slots}
-use Rattle.calls.specs.Calls.{keyWordsOf, scheduleWords, roundsOf}
+use Rattle.calls.specs.Calls.{keyWordsOf, zeroKey, scheduleWords, roundsOf}
 
--- a key, and three buffers of a full batch
+-- a key that is taken: of a right length, and not all zeros
+pub record Taken (key : List ℕ) : Type 0 where
+  pub keyed : keyWordsOf key ≡ 0 → ⊥
+  pub not-zero : zeroKey key ≡ false
+
+-- three buffers of a full batch
 pub record Batches (w : Width) (i s o : List ℕ) : Type 0 where
   pub input : length i ≡ 16 * slots w
   pub sealed : length s ≡ 16 * slots w
@@ -19,11 +26,11 @@ pub record Back (r : ℕ) (input opened : List ℕ) : Type 0 where
 
 -- through the door and back
 pub record DoorBack (key input sealed opened : List ℕ) (r : ℕ) (left : List ℕ) : Type 0 where
-  pub back : (keyWordsOf key ≡ 0 → ⊥) → Batches w64 input sealed opened → Back r input left
+  pub back : Taken key → Batches w64 input sealed opened → Back r input left
 
 -- by a schedule and back
 pub record ScheduleBack (w : Width) (key schedule input sealed opened : List ℕ) (r : ℕ) (left : List ℕ) : Type 0 where
-  pub back : (keyWordsOf key ≡ 0 → ⊥) → length schedule ≡ scheduleWords key → Batches w input sealed opened → Back r input left
+  pub back : Taken key → length schedule ≡ scheduleWords key → Batches w input sealed opened → Back r input left
 
 -- the check value is the beginning of an encryption of zeros
 pub record Agrees (w : Width) (schedule three batch : List ℕ) (r : ℕ) (check sealed : List ℕ) : Type 0 where
@@ -33,3 +40,7 @@ pub record Agrees (w : Width) (schedule three batch : List ℕ) (r : ℕ) (check
 pub record Refused (before : List ℕ) (r : ℕ) (left : List ℕ) : Type 0 where
   pub refused : r ≡ 0 → ⊥
   pub kept : left ≡ before
+
+-- refused by 6 where the key is zeros, whatever else is wrong, and nothing is changed
+pub record Destroyed (key before : List ℕ) (r : ℕ) (left : List ℕ) : Type 0 where
+  pub destroyed : (keyWordsOf key ≡ 0 → ⊥) → zeroKey key ≡ true → (r ≡ 6) × (left ≡ before)

@@ -3,7 +3,7 @@
 pub mod w32;
 pub mod w64;
 
-ghost use Rattle.uses.specs.Promises.{DoorBack, Refused};
+ghost use Rattle.uses.specs.Promises.{DoorBack, Refused, Destroyed};
 use host::locker_aes;
 
 // Encrypts a batch through the door and decrypts it again.
@@ -22,4 +22,11 @@ pub fn refused(key: &[u8], input: &[u8], output: &mut [u8]) -> u32
     ensures { λ r. ⌜ Refused (now (output .entry)) r (now (output .exit)) ⌝ }
 {
     locker_aes(2, key, input, output)
+}
+
+// Asks the door for a batch under a key that may have been destroyed.
+pub fn destroyed(direction: u32, key: &[u8], input: &[u8], output: &mut [u8]) -> u32
+    ensures { λ r. ⌜ Destroyed (now (key .entry)) (now (output .entry)) r (now (output .exit)) ⌝ }
+{
+    locker_aes(direction, key, input, output)
 }

@@ -1,5 +1,6 @@
 // Runs the published known answers of its input, a line `KEY PLAINTEXT CIPHERTEXT` for each block (tools/vectors.py made it), at both
-// widths and in both directions, and prints how many of the four checks of each record passed.
+// widths and in both directions, and prints how many of the four checks of each record passed. Where the key is zeros the schedule is made below
+// the public call (crate below), which refuses that key; how many it refused is printed too.
 mod w32;
 mod w64;
 
@@ -81,12 +82,36 @@ fn record(line: &[u8], number: usize) -> usize
     checks(&mut key[0..n], line, number)
 }
 
-fn report(records: usize, passed: usize, failing: usize)
+// 1 where the public calls refuse a key of so many bytes as zeros, at both widths; else 0.
+fn refused_by(key: &mut [u8], line: &[u8]) -> usize
+    ensures { λ r. ⌜ r ≤ 1 ⌝ }
+{
+    hex::read(hex::field(line, 0), key);
+    if w32::expand(key) == 6 && w64::expand(key) == 6 {
+        1
+    } else {
+        0
+    }
+}
+
+fn refused(line: &[u8]) -> usize
+    ensures { λ r. ⌜ r ≤ 1 ⌝ }
+{
+    let mut key = [0u8; 32];
+    let n = hex::field(line, 0).len() / 2;
+    if n > 32 {
+        return 0;
+    }
+    refused_by(&mut key[0..n], line)
+}
+
+fn report(records: usize, passed: usize, zeros: usize, failing: usize)
     requires { ⌜ records < 2 ^ 32 ⌝ }
 {
     hex::say_count(b"records ", records);
     hex::say_count(b"\nchecks ", 4 * records);
     hex::say_count(b"\npassed ", passed);
+    hex::say_count(b"\nkeys of zeros, refused by the public call ", zeros);
     if failing > 0 {
         hex::say_count(b"\nfirst to fail: record ", failing);
     }
@@ -98,6 +123,7 @@ fn all(text: &[u8])
 {
     let mut records = 0;
     let mut passed = 0;
+    let mut zeros = 0;
     let mut failing = 0;
     let mut at = 0;
     while at < text.len() {
@@ -105,12 +131,13 @@ fn all(text: &[u8])
         let n = record(&text[at..end], records);
         records += 1;
         passed += n;
+        zeros += refused(&text[at..end]);
         if n < 4 && failing == 0 {
             failing = records;
         }
         at = end + 1;
     }
-    report(records, passed, failing);
+    report(records, passed, zeros, failing);
 }
 
 // Room for the input. A call, so that a goal says its result and not so many zeros.

@@ -1,5 +1,6 @@
-// A batch through the public calls at 32 bits. The number is the first that is not 0.
+// A batch at 32 bits, through the public calls, or below them where the key is zeros.
 use aes::w32 as public;
+use below::w32 as any_key;
 
 type Word = u32;
 
@@ -16,9 +17,8 @@ fn crypt_by(
     input: &[u8],
     output: &mut [u8],
 ) -> u32 {
-    let number = public::expand(key, schedule);
-    if number != 0 {
-        return number;
+    if !any_key::expands(key, schedule) {
+        return 1;
     }
     if decrypts {
         public::decrypt(schedule, input, output)
@@ -31,4 +31,11 @@ pub fn crypt(key: &[u8], decrypts: bool, input: &[u8], output: &mut [u8]) -> u32
     let mut schedule = blank();
     let n = super::words_for(key.len());
     crypt_by(&mut schedule[0..n], key, decrypts, input, output)
+}
+
+// What the public call answers for a key.
+pub fn expand(key: &[u8]) -> u32 {
+    let mut schedule = blank();
+    let n = super::words_for(key.len());
+    public::expand(key, &mut schedule[0..n])
 }

@@ -1,0 +1,25 @@
+-- Safe, and ends. Assumes nothing.
+use borrow.Author.Needs.{needs}
+use Prim.Native.Nat.{_-_}
+use Rattle.limits_main.proofs.zeros_expand.Statement.{statement}
+use Rattle.limits_main.proofs.zeros_expand.Tie as tie
+
+abbrev Inv-loop : tie.InvT-loop
+Inv-loop bits i₀ i = Unit {0}
+
+abbrev μ-loop : tie.MeasureT-loop
+μ-loop bits i₀ i = 328 - i
+
+pub zeros-expand-spec : {M : Type 1} → statement M
+zeros-expand-spec =
+    tie.close
+    (tie.spec
+    Inv-loop
+    μ-loop
+    (λ c. search needs)
+    (λ c κs. search needs)
+    (λ c κs. search needs)
+    (λ c. search needs)
+    (λ c. search needs)
+    (λ c. search needs)
+    (λ c. search needs))
