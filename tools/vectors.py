@@ -1,6 +1,6 @@
 #!/usr/bin/env python3
-"""Writes crates/vectors_main/stdin, the input of that program: the published AES known answers for 128- and 256-bit keys,
-one block a line:
+"""Writes crates/vectors_main/stdin, the input of that program, and stdout, what it must say of it. The input is the published
+AES known answers for 128- and 256-bit keys, one block a line:
 
     KEY PLAINTEXT CIPHERTEXT
 
@@ -71,9 +71,13 @@ def main():
         records.update(dict.fromkeys(blocks(text)))
         print(f"{name:14} {len(records) - before}")
     agreed = checked(list(records))
-    path = os.path.join(os.path.dirname(os.path.abspath(__file__)), "../crates/vectors_main/stdin")
-    with open(path, "w") as file:
+    folder = os.path.join(os.path.dirname(os.path.abspath(__file__)), "../crates/vectors_main")
+    with open(os.path.join(folder, "stdin"), "w") as file:
         file.writelines(" ".join(record) + "\n" for record in records)
+    zeros = sum(not any(bytes.fromhex(key)) for key, plain, cipher in records)  # the public call refuses these keys
+    with open(os.path.join(folder, "stdout"), "w") as file:
+        file.write(f"records {len(records)}\nchecks {4 * len(records)}\npassed {4 * len(records)}\n")
+        file.write(f"keys of zeros, refused by the public call {zeros}\n")
     if agreed is None:
         print("skipped: the check by OpenSSL, since Python's `cryptography` is not installed")
     print(f"ok vectors: {len(records)} records in crates/vectors_main/stdin, {agreed or 0} agreed by OpenSSL in both directions")

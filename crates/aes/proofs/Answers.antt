@@ -17,7 +17,8 @@ use Rattle.lanes.proofs.Sizes.{schedule-found}
 use Rattle.cipher.specs.Fixslice.{Scheduled}
 use Rattle.outcome.specs.Outcome.{answers}
 use Rattle.outcome.proofs.Laws.{is, is-not, differs, agrees, stop, pass}
-use Rattle.calls.specs.Calls.{keyWordsOf, zeroKey, scheduleWords, roundsOf, keysOf, expandOutcome, cryptOutcome, checkValue, checkOutcome}
+use Rattle.calls.specs.Calls.{keyWordsOf, zeroKey, Taken, scheduleWords, roundsOf, keysOf, expandOutcome, cryptOutcome, checkValue, checkOutcome}
+use Rattle.calls.proofs.ZeroKey.{expand-6 as zero-key-6, key-passes}
 use Rattle.aes.specs.KeySize.{found, sizeFor}
 use Rattle.aes.specs.declared.KeySize.the-variants.{Of, NoKey}
 
@@ -58,18 +59,22 @@ module _ (w : Width) (key s : List ℕ) where
 
   module _ (keyed : keySize (length key) .nk ≡ 0 → ⊥) where
     pub expand-6 : zeroKey key ≡ true → answers 6 s ≡ expandOutcome w key s
-    unfolding expandOutcome keyWordsOf
-    expand-6 z = pass 1 s (is-not keyed) (stop 6 s _ z)
+    unfolding keyWordsOf
+    expand-6 z = zero-key-6 key keyed z w s
 
     module _ (z : zeroKey key ≡ false) where
+      taken : Taken key
+      unfolding keyWordsOf
+      taken = record { right-length = keyed; not-zero = z }
+
       pub expand-2 : (length s ≡ keySize (length key) .words → ⊥) → answers 2 s ≡ expandOutcome w key s
-      unfolding expandOutcome keyWordsOf scheduleWords
-      expand-2 h = pass 1 s (is-not keyed) (pass 6 s z (stop 2 s _ (differs h)))
+      unfolding expandOutcome scheduleWords
+      expand-2 h = key-passes key taken s (stop 2 s _ (differs h))
 
       pub expand-0 : length s ≡ keySize (length key) .words → {x : List ℕ} → x ≡ scheduleOf w (keySize (length key) .nk) key
           → answers 0 x ≡ expandOutcome w key s
       unfolding expandOutcome keyWordsOf scheduleWords
-      expand-0 h e = pass 1 s (is-not keyed) (pass 6 s z (pass 2 s (agrees h) (ap (answers 0) e)))
+      expand-0 h e = key-passes key taken s (pass 2 s (agrees h) (ap (answers 0) e))
 
 -- ---- a schedule, by its length; m is the code's number of rounds
 pub scheduled : (n : ℕ) {m : ℕ} → m ≡ scheduleSize n .rounds → (m ≡ 0 → ⊥) → Scheduled m n

@@ -1,7 +1,7 @@
 -- The bytes of a key joined by OR: the sum is zero exactly where all that was joined is. Assumes nothing.
 use mathlib.Core.Path.{_≡_, refl, sym, _∙_, ap}
-use mathlib.Core.Bool.{Bool, true, false, _&&_}
-use mathlib.Core.List.{List, []}
+use mathlib.Core.Bool.{Bool, _&&_, and-assoc, and-true}
+use mathlib.Core.List.{List}
 use Prim.Native.Nat.{ℕ, zero, suc, _+_, _≤_, _<_}
 use native.Mathlib.Numerals.{add-one}
 use native.Mathlib.Omega.{arith}
@@ -19,14 +19,6 @@ or-zero (suc a) b =
     let s = or-add-and (suc a) b in
     let l = and-le-r (suc a) b in
     ne-eqb (bitOr (suc a) b) 0 (λ e. omega (arith, s, l, e)) ∙ sym (ap (λ (t : Bool). t && eqb b 0) (ne-eqb (suc a) 0 (λ e. omega arith)))
-
-and-assoc : (p q r : Bool) → ((p && q) && r) ≡ (p && (q && r))
-and-assoc true q r = refl
-and-assoc false q r = refl
-
-and-true : (p : Bool) → (p && true) ≡ p
-and-true true = refl
-and-true false = refl
 
 -- with the first i bytes joined to j
 pub record Joined (key : List ℕ) (i j : ℕ) : Type 0 where

@@ -1,5 +1,6 @@
 -- WHAT EACH PUBLIC CALL PROMISES, from its arguments alone: docs/SCOPE.md's table, one link for each refusal, in its order.
-use mathlib.Core.Bool.{Bool, true, not, _&&_, _||_, cond}
+use mathlib.Core.Path.{_≡_}
+use mathlib.Core.Bool.{Bool, true, false, not, _&&_, _||_, cond}
 use mathlib.Core.List.{List, [], _∷_}
 use Prim.Native.Nat.{ℕ, _*_}
 use lib.Dec.{eqb}
@@ -20,6 +21,11 @@ keyWordsOf key = keySize (length key) .nk
 unfoldable pub zeroKey : List ℕ → Bool
 zeroKey [] = true
 zeroKey (x ∷ xs) = eqb x 0 && zeroKey xs
+
+-- what the calls take as a key; no promise needs this, and theorems do
+pub record Taken (key : List ℕ) : Type 0 where
+  pub right-length : keyWordsOf key ≡ 0 → ⊥
+  pub not-zero : zeroKey key ≡ false
 
 -- the words of its schedule
 unfoldable pub scheduleWords : List ℕ → ℕ

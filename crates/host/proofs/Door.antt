@@ -20,8 +20,9 @@ use Rattle.lanes.proofs.EqualParts.{joined-same}
 use Rattle.schedule.proofs.Reading.{schedule-length, schedule-reads}
 use Rattle.cipher.specs.Fixslice.{Scheduled}
 use Rattle.outcome.specs.Outcome.{answers}
-use Rattle.outcome.proofs.Laws.{is, is-not, differs, agrees, stop, pass}
-use Rattle.calls.specs.Calls.{keyWordsOf, zeroKey, directed, doorOutcome}
+use Rattle.outcome.proofs.Laws.{is, differs, agrees, stop, pass}
+use Rattle.calls.specs.Calls.{keyWordsOf, zeroKey, Taken, directed, doorOutcome}
+use Rattle.calls.proofs.ZeroKey.{door-6 as zero-key-6, key-passes}
 use Rattle.calls.proofs.Directions.{neither, one-of}
 use Rattle.host.specs.Door.{crypted}
 
@@ -33,27 +34,31 @@ module _ (d : ℕ) (k i o : List ℕ) where
 
   module _ (p : keySize (length k) .nk ≡ 0 → ⊥) where
     pub door-6 : zeroKey k ≡ true → answers 6 o ≡ doorOutcome d k i o
-    unfolding doorOutcome keyWordsOf
-    door-6 z = pass 1 o (is-not p) (stop 6 o _ z)
+    unfolding keyWordsOf
+    door-6 z = zero-key-6 k p z d i o
 
     module _ (z : zeroKey k ≡ false) where
+      taken : Taken k
+      unfolding keyWordsOf
+      taken = record { right-length = p; not-zero = z }
+
       pub door-3 : (length i ≡ 16 * slots w64 → ⊥) → answers 3 o ≡ doorOutcome d k i o
-      unfolding doorOutcome keyWordsOf
-      door-3 q = pass 1 o (is-not p) (pass 6 o z (stop 3 o _ (differs q)))
+      unfolding doorOutcome
+      door-3 q = key-passes k taken o (stop 3 o _ (differs q))
 
       module _ (q : length i ≡ 16 * slots w64) where
         pub door-4 : (length o ≡ 16 * slots w64 → ⊥) → answers 4 o ≡ doorOutcome d k i o
-        unfolding doorOutcome keyWordsOf
-        door-4 r = pass 1 o (is-not p) (pass 6 o z (pass 3 o (agrees q) (stop 4 o _ (differs r))))
+        unfolding doorOutcome
+        door-4 r = key-passes k taken o (pass 3 o (agrees q) (stop 4 o _ (differs r)))
 
         module _ (r : length o ≡ 16 * slots w64) where
           pub door-5 : 1 < d → answers 5 o ≡ doorOutcome d k i o
-          unfolding doorOutcome keyWordsOf
-          door-5 t = pass 1 o (is-not p) (pass 6 o z (pass 3 o (agrees q) (pass 4 o (agrees r) (stop 5 o _ (neither d t)))))
+          unfolding doorOutcome
+          door-5 t = key-passes k taken o (pass 3 o (agrees q) (pass 4 o (agrees r) (stop 5 o _ (neither d t))))
 
           pub door-0 : d ≤ 1 → {x : List ℕ} → x ≡ crypted d k i → answers 0 x ≡ doorOutcome d k i o
-          unfolding doorOutcome keyWordsOf
-          door-0 t e = pass 1 o (is-not p) (pass 6 o z (pass 3 o (agrees q) (pass 4 o (agrees r) (pass 5 o (one-of d t) (ap (answers 0) e)))))
+          unfolding doorOutcome
+          door-0 t e = key-passes k taken o (pass 3 o (agrees q) (pass 4 o (agrees r) (pass 5 o (one-of d t) (ap (answers 0) e))))
 
 -- ---- a batch under the schedule of a key
 module _ (key : List ℕ) (keyed : keySize (length key) .nk ≡ 0 → ⊥) where

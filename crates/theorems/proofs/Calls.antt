@@ -1,6 +1,6 @@
 -- The five calls: their arguments, when they are to be answered, and what they then leave. Assumes nothing.
 use mathlib.Core.Path.{_≡_}
-use mathlib.Core.Bool.{false, not, _||_}
+use mathlib.Core.Bool.{not, _||_}
 use mathlib.Core.List.{List}
 use Prim.Native.Nat.{ℕ, _*_, _≤_}
 use native.Mathlib.Omega.{arith}
@@ -12,15 +12,15 @@ use Rattle.lanes.specs.Layout.{Width, w64, bits, slots}
 use Rattle.lanes.specs.Schedule.{scheduleOf, eachBlock, cryptedBatch}
 use Rattle.outcome.specs.Outcome.{answers}
 use Rattle.outcome.proofs.Laws.{Keeps, is-not, agrees, was-not, agreed, passed, refusal-keeps, answer-keeps}
-use Rattle.calls.specs.Calls.{keyWordsOf, zeroKey, scheduleWords, roundsOf, keysOf, expandOutcome, cryptOutcome, checkValue, checkOutcome, directed}
-use Rattle.calls.specs.Calls.{doorOutcome}
+use Rattle.calls.specs.Calls.{keyWordsOf, zeroKey, Taken, scheduleWords, roundsOf, keysOf, expandOutcome, cryptOutcome, checkValue, checkOutcome}
+use Rattle.calls.specs.Calls.{directed, doorOutcome}
 use Rattle.calls.proofs.Directions.{one-of, was-one-of}
+use Rattle.calls.proofs.ZeroKey.{key-passed}
 use Rattle.theorems.proofs.Call.{Call}
 
 -- ---- expand: a key that is not all zeros, and room for its schedule
 pub record ExpandGood (key schedule : List ℕ) : Type 0 where
-  pub keyed : keyWordsOf key ≡ 0 → ⊥
-  pub not-zero : zeroKey key ≡ false
+  pub taken : Taken key
   pub room : length schedule ≡ scheduleWords key
 
 pub record ExpandFits (w : Width) (key schedule : List ℕ) : Type 0 where
@@ -30,7 +30,7 @@ pub record ExpandFits (w : Width) (key schedule : List ℕ) : Type 0 where
 module _ (w : Width) (key s : List ℕ) where
   pub expand-taken : ExpandGood key s → expandOutcome w key s ≡ answers 0 (scheduleOf w (keyWordsOf key) key)
   unfolding expandOutcome
-  expand-taken g = rw (is-not (g .keyed), g .not-zero, agrees (g .room))
+  expand-taken g = rw (is-not (g .taken .right-length), g .taken .not-zero, agrees (g .room))
 
   pub expand-keeping : Keeps s (expandOutcome w key s)
   unfolding expandOutcome
@@ -42,10 +42,9 @@ module _ (w : Width) (key s : List ℕ) where
   pub expand-only-good : (x : List ℕ) → answers 0 x ≡ expandOutcome w key s → ExpandGood key s
   unfolding expandOutcome
   expand-only-good x e =
-      let p = passed (eqb (keyWordsOf key) 0) 1 s (λ z. omega arith) e in
-      let z = passed (zeroKey key) 6 s (λ z. omega arith) (p .1) in
-      let q = passed (not (eqb (length s) (scheduleWords key))) 2 s (λ z. omega arith) (z .1) in
-      record { keyed = was-not (p .0); not-zero = z .0; room = agreed (length s) (scheduleWords key) (q .0) }
+      let p = key-passed key s e in
+      let q = passed (not (eqb (length s) (scheduleWords key))) 2 s (λ z. omega arith) (p .1) in
+      record { taken = p .0; room = agreed (length s) (scheduleWords key) (q .0) }
 
 abbrev pub expandCall : Width → Call
 expandCall w = record {
@@ -162,8 +161,7 @@ pub record DoorArgs : Type 0 where
   pub input : List ℕ
 
 pub record DoorGood (d : ℕ) (a : DoorArgs) (output : List ℕ) : Type 0 where
-  pub keyed : keyWordsOf (a .key) ≡ 0 → ⊥
-  pub not-zero : zeroKey (a .key) ≡ false
+  pub taken : Taken (a .key)
   pub full-input : length (a .input) ≡ 16 * slots w64
   pub full-output : length output ≡ 16 * slots w64
   pub direction : d ≤ 1
@@ -179,7 +177,7 @@ doorResult d a = eachBlock w64 (λ slot. directed d (keyExpansion (keyWordsOf (a
 module _ (d : ℕ) (a : DoorArgs) (o : List ℕ) where
   pub door-taken : DoorGood d a o → doorOutcome d (a .key) (a .input) o ≡ answers 0 (doorResult d a)
   unfolding doorOutcome
-  door-taken g = rw (is-not (g .keyed), g .not-zero, agrees (g .full-input), agrees (g .full-output), one-of d (g .direction))
+  door-taken g = let k = g .taken in rw (is-not (k .right-length), k .not-zero, agrees (g .full-input), agrees (g .full-output), one-of d (g .direction))
 
   pub door-keeping : Keeps o (doorOutcome d (a .key) (a .input) o)
   unfolding doorOutcome
@@ -193,14 +191,12 @@ module _ (d : ℕ) (a : DoorArgs) (o : List ℕ) where
   pub door-only : (x : List ℕ) → answers 0 x ≡ doorOutcome d (a .key) (a .input) o → DoorGood d a o
   unfolding doorOutcome
   door-only x e =
-      let p = passed (eqb (keyWordsOf (a .key)) 0) 1 o (λ z. omega arith) e in
-      let z = passed (zeroKey (a .key)) 6 o (λ z. omega arith) (p .1) in
-      let q = passed (not (eqb (length (a .input)) (16 * slots w64))) 3 o (λ z. omega arith) (z .1) in
+      let p = key-passed (a .key) o e in
+      let q = passed (not (eqb (length (a .input)) (16 * slots w64))) 3 o (λ z. omega arith) (p .1) in
       let r = passed (not (eqb (length o) (16 * slots w64))) 4 o (λ z. omega arith) (q .1) in
       let t = passed (not (eqb d 0 || eqb d 1)) 5 o (λ z. omega arith) (r .1) in
       record {
-        keyed = was-not (p .0);
-        not-zero = z .0;
+        taken = p .0;
         full-input = agreed (length (a .input)) (16 * slots w64) (q .0);
         full-output = agreed (length o) (16 * slots w64) (r .0);
         direction = was-one-of d (t .0);

@@ -3,7 +3,7 @@
 -- promise is the one that the code of crates/aes and crates/host is proved to meet. Demand 1 is `answer-settled`, `answers-0`, `answers-0-only` and
 -- `refusal-changes-nothing` of Call.antt, for every call. Assumes nothing.
 use mathlib.Core.Path.{_≡_, refl, sym, _∙_, ap, ap₂}
-use mathlib.Core.Bool.{true, false}
+use mathlib.Core.Bool.{true}
 use mathlib.Core.List.{List}
 use Prim.Native.Nat.{ℕ, zero, suc, _+_, _*_, _≤_, _<_}
 use native.Mathlib.Omega.{arith}
@@ -21,9 +21,9 @@ use Rattle.lanes.proofs.EachBlock.{Keeping, each-at, each-data, each-undone}
 use Rattle.schedule.proofs.Reading.{schedule-length, schedule-fits, schedule-reads, schedule-only, schedule-one}
 use Rattle.cipher.proofs.Batches.{Way, forth, backwards, crypted-slot, crypted-data, crypted-undone, crypted-one}
 use Rattle.outcome.specs.Outcome.{answers}
-use Rattle.outcome.proofs.Laws.{is-not, stop, pass, settled}
-use Rattle.calls.specs.Calls.{keyWordsOf, zeroKey, scheduleWords, roundsOf, keysOf, keysIn, expandOutcome, checkValue, directed, doorOutcome}
-use Rattle.calls.proofs.ZeroKey.{no-zeros}
+use Rattle.outcome.proofs.Laws.{settled}
+use Rattle.calls.specs.Calls.{keyWordsOf, zeroKey, Taken, scheduleWords, roundsOf, keysOf, keysIn, expandOutcome, checkValue, directed, doorOutcome}
+use Rattle.calls.proofs.ZeroKey.{no-zeros, expand-6, door-6}
 use Rattle.theorems.proofs.Call.{Made, leaves, can-make}
 use Rattle.theorems.proofs.Calls.{expandCall, cryptCall}
 use Rattle.theorems.proofs.Calls.{checkCall, doorCall}
@@ -38,7 +38,7 @@ module _ {w : Width} {key x : List ℕ} (m : Expands w key x) where
 
   sized : Found (λ z. 4 * z .nk) (length key) (keySize (length key))
   unfolding keyWordsOf
-  sized = key-found (length key) (m .can .good .keyed)
+  sized = key-found (length key) (m .can .good .taken .right-length)
 
   some : 1 ≤ keyWordsOf key
   unfolding keyWordsOf
@@ -95,17 +95,14 @@ two-keys-two-schedules {w} {k} {l} e c d =
 -- ---- A KEY OF ZEROS IS NO KEY: where a key has a right length and is all zeros, 6 is answered, whatever else is wrong, and what was lent stays
 module _ (key : List ℕ) (keyed : keyWordsOf key ≡ 0 → ⊥) (zeros : zeroKey key ≡ true) where
   pub expand-refuses-zeros : (w : Width) (s : List ℕ) {r : ℕ} {x : List ℕ} → answers r x ≡ expandOutcome w key s → (r ≡ 6) × (x ≡ s)
-  unfolding expandOutcome
-  expand-refuses-zeros w s e = settled e (pass 1 s (is-not keyed) (stop 6 s _ zeros))
+  expand-refuses-zeros w s e = settled e (expand-6 key keyed zeros w s)
 
   pub door-refuses-zeros : (d : ℕ) (i o : List ℕ) {r : ℕ} {x : List ℕ} → answers r x ≡ doorOutcome d key i o → (r ≡ 6) × (x ≡ o)
-  unfolding doorOutcome
-  door-refuses-zeros d i o e = settled e (pass 1 o (is-not keyed) (stop 6 o _ zeros))
+  door-refuses-zeros d i o e = settled e (door-6 key keyed zeros d i o)
 
 -- what may be called a key
 pub record Key (key : List ℕ) : Type 0 where
-  pub right-length : keyWordsOf key ≡ 0 → ⊥
-  pub not-zero : zeroKey key ≡ false
+  pub taken : Taken key
   pub bytes : Fit 8 key
 
 -- the round keys of a key, and those of n words of zeros
@@ -128,15 +125,15 @@ keys-length n key = length-map (range 0 (roundsFor n + 1)) (sixteen (keyWords n 
 key-is-not-zeros : {key : List ℕ} → Key key → (n : ℕ) → roundKeys key ≡ zeroRoundKeys n → ⊥
 unfolding keyWordsOf
 key-is-not-zeros {key} k n e =
-    let f = key-found (length key) (k .right-length) in
+    let f = key-found (length key) (k .taken .right-length) in
     let same : keyWordsOf key ≡ n = omega (arith, sym (keys-length (keyWordsOf key) key) ∙ ap length e ∙ keys-length n (replicate (4 * n) 0)) in
-    no-zeros key (k .not-zero) (4 * n)
+    no-zeros key (k .taken .not-zero) (4 * n)
     (expansion-one (keyWordsOf key) key (replicate (4 * n) 0) (f .sized .some) (f .sized .most) (f .at) (length-replicate (4 * n) 0 ∙ omega (arith, same))
     (e ∙ ap (λ (m : ℕ). keyExpansion m (replicate (4 * n) 0)) (sym same)))
 
 -- so NO CALL MAKES THE SCHEDULE OF A KEY OF ZEROS: what expand leaves reads so in no slot. (Of the door: `door-uses-no-zero-schedule`.)
 expand-key : {w : Width} {key x : List ℕ} → Expands w key x → Key key
-expand-key m = record { right-length = m .can .good .keyed; not-zero = m .can .good .not-zero; bytes = m .can .fits .key-bytes }
+expand-key m = record { taken = m .can .good .taken; bytes = m .can .fits .key-bytes }
 
 pub expand-makes-no-zero-schedule : {w : Width} {key x : List ℕ} → Expands w key x → (n b : ℕ) → b < slots w → keysIn w x b ≡ zeroRoundKeys n → ⊥
 expand-makes-no-zero-schedule m n b h e = key-is-not-zeros (expand-key m) n (sym (expand-reads m b h) ∙ e)
@@ -288,12 +285,12 @@ Doors d key i x = Made (doorCall d) (record { key = key; input = i }) x
 pub keys-of : {key : List ℕ} → Key key → Blocks (roundKeys key)
 unfolding keyWordsOf
 keys-of {key} k =
-    let f = key-found (length key) (k .right-length) in
+    let f = key-found (length key) (k .taken .right-length) in
     expansion-blocks (keyWordsOf key) key (f .sized .some) (f .at) (k .bytes)
 
 -- whatever its direction, an answered call has a key, and not the round keys of zeros
 door-key : (d : ℕ) {key i x : List ℕ} → Doors d key i x → Key key
-door-key d m = record { right-length = m .can .good .keyed; not-zero = m .can .good .not-zero; bytes = m .can .fits .key-bytes }
+door-key d m = record { taken = m .can .good .taken; bytes = m .can .fits .key-bytes }
 
 pub door-uses-no-zero-schedule : (d : ℕ) {key i x : List ℕ} → Doors d key i x → (n : ℕ) → roundKeys key ≡ zeroRoundKeys n → ⊥
 door-uses-no-zero-schedule d m n e = key-is-not-zeros (door-key d m) n e
@@ -321,7 +318,7 @@ module _ (d : ℕ) (v : Way) (way : directed d ≡ v .go) {key : List ℕ} where
       can-make (doorCall d) {o = i}
       (record {
         fits = record { key-bytes = k .bytes; input-bytes = y .bytes; buffer-bytes = y .bytes };
-        good = record { keyed = k .right-length; not-zero = k .not-zero; full-input = y .long; full-output = y .long; direction = le };
+        good = record { taken = k .taken; full-input = y .long; full-output = y .long; direction = le };
       })
       (ap (λ (c : List (List ℕ) → List ℕ → List ℕ). eachBlock w64 (λ slot. c (roundKeys key)) (slots w64) i) (sym way))
 

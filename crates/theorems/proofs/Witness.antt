@@ -19,7 +19,7 @@ use Rattle.lanes.specs.Sizes.{keySize}
 use Rattle.lanes.specs.Schedule.{scheduleOf, eachBlock}
 use Rattle.lanes.proofs.EqualParts.{joined-at}
 use Rattle.schedule.proofs.Reading.{schedule-fits}
-use Rattle.calls.specs.Calls.{keyWordsOf, zeroKey, scheduleWords, roundsOf, keysIn}
+use Rattle.calls.specs.Calls.{keyWordsOf, zeroKey, Taken, scheduleWords, roundsOf, keysIn}
 use Rattle.theorems.proofs.Call.{Can, can-make}
 use Rattle.theorems.proofs.Calls.{CryptArgs, DoorArgs, expandCall, cryptCall, checkCall, doorCall}
 use Rattle.theorems.proofs.Theorems.{Expands, Key, expand-rounds, expand-reads}
@@ -70,12 +70,11 @@ pub record Sample : Type 0 where
   pub key : List ℕ
   pub keys : List (List ℕ)
   pub fits : Fit 8 key
-  pub keyed : keyWordsOf key ≡ 0 → ⊥
-  pub not-zero : zeroKey key ≡ false
+  pub taken : Taken key
   pub expansion : keyExpansion (keyWordsOf key) key ≡ keys
 
 pub sample-key : (k : Sample) → Key (k .key)
-sample-key k = record { right-length = k .keyed; not-zero = k .not-zero; bytes = k .fits }
+sample-key k = record { taken = k .taken; bytes = k .fits }
 
 -- the keys of appendices A.1 and A.3
 pub words-A1 : keyWordsOf keyA1 ≡ 4
@@ -107,8 +106,7 @@ A1 = record {
   key = keyA1;
   keys = roundKeysA1;
   fits = fits-A1;
-  keyed = λ e. omega (arith, words-A1);
-  not-zero = not-zero-A1;
+  taken = record { right-length = λ e. omega (arith, words-A1); not-zero = not-zero-A1 };
   expansion = ap (λ (n : ℕ). keyExpansion n keyA1) words-A1 ∙ expansion-A1;
 }
 
@@ -117,8 +115,7 @@ A3 = record {
   key = keyA3;
   keys = roundKeysA3;
   fits = fits-A3;
-  keyed = λ e. omega (arith, words-A3);
-  not-zero = not-zero-A3;
+  taken = record { right-length = λ e. omega (arith, words-A3); not-zero = not-zero-A3 };
   expansion = ap (λ (n : ℕ). keyExpansion n keyA3) words-A3 ∙ expansion-A3;
 }
 
@@ -140,8 +137,7 @@ ones = record {
   key = replicate 16 1;
   keys = keyExpansion (keyWordsOf (replicate 16 1)) (replicate 16 1);
   fits = fit-replicate 16 (lit< tt);
-  keyed = λ e. omega (arith, words-ones);
-  not-zero = not-zero-ones;
+  taken = record { right-length = λ e. omega (arith, words-ones); not-zero = not-zero-ones };
   expansion = refl;
 }
 
@@ -161,7 +157,7 @@ module _ (w : Width) (k : Sample) where
   pub can-expand : (y : ℕ) → y < 2 → Can (expandCall w) (k .key) (room y)
   can-expand y h = record {
     fits = record { key-bytes = k .fits; buffer-words = fit-replicate (scheduleWords (k .key)) (small w h) };
-    good = record { keyed = k .keyed; not-zero = k .not-zero; room = length-replicate (scheduleWords (k .key)) y };
+    good = record { taken = k .taken; room = length-replicate (scheduleWords (k .key)) y };
   }
 
   unfoldable pub words : List ℕ
@@ -212,7 +208,7 @@ module _ (k : Sample) where
       let o = batch-data w64 y l in
       record {
         fits = record { key-bytes = k .fits; input-bytes = i .bytes; buffer-bytes = o .bytes };
-        good = record { keyed = k .keyed; not-zero = k .not-zero; full-input = i .long; full-output = o .long; direction = le };
+        good = record { taken = k .taken; full-input = i .long; full-output = o .long; direction = le };
       }
 
 -- ---- what they leave, computed: the first byte of a block

@@ -354,7 +354,7 @@ door-1-fills-from-slot-0 = door-slot-0 1 (lit≤ tt) decryption refl
 pub door-direction-2 : (x : List ℕ) → answers 0 x ≡ doorOutcome 2 (A1 .key) (batch w64 0) (batch w64 0) → ⊥
 unfolding doorOutcome batch
 door-direction-2 x e =
-    let five : doorOutcome 2 (A1 .key) (batch w64 0) (batch w64 0) ≡ answers 5 (batch w64 0) = rw (is-not (A1 .keyed), A1 .not-zero) in
+    let five : doorOutcome 2 (A1 .key) (batch w64 0) (batch w64 0) ≡ answers 5 (batch w64 0) = rw (is-not (A1 .taken .right-length), A1 .taken .not-zero) in
     let z : _≡_ {A = ℕ} 0 5 = same-number (e ∙ five) in
     omega arith
 
@@ -509,7 +509,7 @@ module _ (w : Width) where
   pub expand-takes-zeros : (n : ℕ) {s : List ℕ} → Fit (bits w) s → (P : Program (expandCall w)) {x : List ℕ} → P (replicate n 0) s ≡ answers 0 x
       → MeetsAll (expandCall w) P → ⊥
   expand-takes-zeros n f P e = takes-too-much (expandCall w) (record { key-bytes = fit-replicate n (lit< tt); buffer-words = f })
-      (λ g. no-zeros (replicate n 0) (g .not-zero) n refl) P e
+      (λ g. no-zeros (replicate n 0) (g .taken .not-zero) n refl) P e
 
   abbrev pub expandBefore : List ℕ → List ℕ → Outcome (List ℕ)
   expandBefore key s =
@@ -522,8 +522,8 @@ module _ (w : Width) where
 module _ (d : ℕ) where
   pub door-takes-zeros : (n : ℕ) {i o : List ℕ} → Fit 8 i → Fit 8 o → (P : Program (doorCall d)) {x : List ℕ}
       → P (record { key = replicate n 0; input = i }) o ≡ answers 0 x → MeetsAll (doorCall d) P → ⊥
-  door-takes-zeros n f g P e = takes-too-much (doorCall d) (record { key-bytes = fit-replicate n (lit< tt); input-bytes = f; buffer-bytes = g })
-      (λ good. no-zeros (replicate n 0) (good .not-zero) n refl) P e
+  door-takes-zeros n f f′ P e = takes-too-much (doorCall d) (record { key-bytes = fit-replicate n (lit< tt); input-bytes = f; buffer-bytes = f′ })
+      (λ g. no-zeros (replicate n 0) (g .taken .not-zero) n refl) P e
 
   abbrev pub doorBefore : DoorArgs → List ℕ → Outcome (List ℕ)
   doorBefore a o =

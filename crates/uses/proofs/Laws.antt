@@ -10,12 +10,12 @@ use lib.Seq.{take-take}
 use Rattle.fips197.specs.Bytes.{Fit}
 use Rattle.lanes.specs.Layout.{Width, w64, bits, slots}
 use Rattle.outcome.specs.Outcome.{answers}
-use Rattle.calls.specs.Calls.{scheduleWords, roundsOf, expandOutcome, encryptOutcome, decryptOutcome, checkOutcome, doorOutcome}
+use Rattle.calls.specs.Calls.{Taken, scheduleWords, roundsOf, expandOutcome, encryptOutcome, decryptOutcome, checkOutcome, doorOutcome}
 use Rattle.theorems.proofs.Call.{answers-0, answers-0-only, refusal-changes-nothing}
 use Rattle.theorems.proofs.Calls.{expandCall, encryptCall, decryptCall, checkCall, doorCall}
 use Rattle.theorems.proofs.Theorems.{Expands, Encrypts, Decrypts, Checks, Doors, door-0-batch, door-1-undoes-0}
 use Rattle.theorems.proofs.Theorems.{expand-refuses-zeros, door-refuses-zeros, expand-schedule, encrypt-batch, decrypt-undoes-encrypt, check-is-slot-0}
-use Rattle.uses.specs.Promises.{Taken, Batches, Back, DoorBack, ScheduleBack, Agrees, Refused, Destroyed}
+use Rattle.uses.specs.Promises.{Batches, Back, DoorBack, ScheduleBack, Agrees, Refused, Destroyed}
 
 -- ---- the door
 module _ (key i s o : List ℕ) (k : Fit 8 key) (b : Fit 8 i) (e : Fit 8 s) (f : Fit 8 o) where
@@ -24,7 +24,7 @@ module _ (key i s o : List ℕ) (k : Fit 8 key) (b : Fit 8 i) (e : Fit 8 s) (f :
     buffer = s;
     can = record {
       fits = record { key-bytes = k; input-bytes = b; buffer-bytes = e };
-      good = record { keyed = p .keyed; not-zero = p .not-zero; full-input = q .input; full-output = q .sealed; direction = lit≤ tt };
+      good = record { taken = p; full-input = q .input; full-output = q .sealed; direction = lit≤ tt };
     };
     number = r;
     answer = a;
@@ -45,7 +45,7 @@ module _ (key i s o : List ℕ) (k : Fit 8 key) (b : Fit 8 i) (e : Fit 8 s) (f :
             buffer = o;
             can = record {
               fits = record { key-bytes = k; input-bytes = d .bytes; buffer-bytes = f };
-              good = record { keyed = p .keyed; not-zero = p .not-zero; full-input = d .long; full-output = q .opened; direction = lit≤ tt };
+              good = record { taken = p; full-input = d .long; full-output = q .opened; direction = lit≤ tt };
             };
             number = r;
             answer = c;
@@ -76,10 +76,7 @@ module _ (w : Width) (key l i s o : List ℕ) (k : Fit 8 key) (g : Fit (bits w) 
   expanding : {r : ℕ} {x : List ℕ} → answers r x ≡ expandOutcome w key l → Good w key l i s o → Expands w key x
   expanding {r} a h = record {
     buffer = l;
-    can = record {
-      fits = record { key-bytes = k; buffer-words = g };
-      good = record { keyed = h .taken .keyed; not-zero = h .taken .not-zero; room = h .room };
-    };
+    can = record { fits = record { key-bytes = k; buffer-words = g }; good = record { taken = h .taken; room = h .room } };
     number = r;
     answer = a;
   }

@@ -1,17 +1,12 @@
 -- What functions over the exported calls promise, where lengths and keys are right, and where a key is zeros: it follows from the contracts of crate host
 -- alone.
 use mathlib.Core.Path.{_≡_}
-use mathlib.Core.Bool.{true, false}
+use mathlib.Core.Bool.{true}
 use mathlib.Core.List.{List}
 use Prim.Native.Nat.{ℕ, _*_}
 use lib.ListN.{length, take}
 use Rattle.lanes.specs.Layout.{Width, w64, slots}
-use Rattle.calls.specs.Calls.{keyWordsOf, zeroKey, scheduleWords, roundsOf}
-
--- a key that is taken: of a right length, and not all zeros
-pub record Taken (key : List ℕ) : Type 0 where
-  pub keyed : keyWordsOf key ≡ 0 → ⊥
-  pub not-zero : zeroKey key ≡ false
+use Rattle.calls.specs.Calls.{keyWordsOf, zeroKey, Taken, scheduleWords, roundsOf}
 
 -- three buffers of a full batch
 pub record Batches (w : Width) (i s o : List ℕ) : Type 0 where

@@ -60,33 +60,10 @@ fn passes(bits: usize, key: &[u8], line: &[u8], from: usize, slot: usize) -> usi
     }
 }
 
-// How many of a record's four checks pass. The slot goes round with the record's number.
-fn checks(key: &mut [u8], line: &[u8], number: usize) -> usize
-    ensures { λ r. ⌜ r ≤ 4 ⌝ }
-{
-    hex::read(hex::field(line, 0), key);
-    passes(32, key, line, 1, number % 2)
-        + passes(32, key, line, 2, number % 2)
-        + passes(64, key, line, 1, number % 4)
-        + passes(64, key, line, 2, number % 4)
-}
-
-fn record(line: &[u8], number: usize) -> usize
-    ensures { λ r. ⌜ r ≤ 4 ⌝ }
-{
-    let mut key = [0u8; 32];
-    let n = hex::field(line, 0).len() / 2;
-    if n > 32 {
-        return 0;
-    }
-    checks(&mut key[0..n], line, number)
-}
-
-// 1 where the public calls refuse a key of so many bytes as zeros, at both widths; else 0.
-fn refused_by(key: &mut [u8], line: &[u8]) -> usize
+// 1 where the public calls refuse a key as zeros, at both widths; else 0.
+fn refused(key: &[u8]) -> usize
     ensures { λ r. ⌜ r ≤ 1 ⌝ }
 {
-    hex::read(hex::field(line, 0), key);
     if w32::expand(key) == 6 && w64::expand(key) == 6 {
         1
     } else {
@@ -94,15 +71,39 @@ fn refused_by(key: &mut [u8], line: &[u8]) -> usize
     }
 }
 
-fn refused(line: &[u8]) -> usize
-    ensures { λ r. ⌜ r ≤ 1 ⌝ }
+// Of a record: how many of its four checks pass, and whether its key is refused.
+struct Found {
+    passed: usize,
+    zeros: usize,
+}
+
+// The slot goes round with the record's number.
+fn checks(key: &mut [u8], line: &[u8], number: usize) -> Found
+    ensures { λ r. ⌜ (r .passed ≤ 4) × (r .zeros ≤ 1) ⌝ }
+{
+    hex::read(hex::field(line, 0), key);
+    let passed = passes(32, key, line, 1, number % 2)
+        + passes(32, key, line, 2, number % 2)
+        + passes(64, key, line, 1, number % 4)
+        + passes(64, key, line, 2, number % 4);
+    Found {
+        passed,
+        zeros: refused(key),
+    }
+}
+
+fn record(line: &[u8], number: usize) -> Found
+    ensures { λ r. ⌜ (r .passed ≤ 4) × (r .zeros ≤ 1) ⌝ }
 {
     let mut key = [0u8; 32];
     let n = hex::field(line, 0).len() / 2;
     if n > 32 {
-        return 0;
+        return Found {
+            passed: 0,
+            zeros: 0,
+        };
     }
-    refused_by(&mut key[0..n], line)
+    checks(&mut key[0..n], line, number)
 }
 
 fn report(records: usize, passed: usize, zeros: usize, failing: usize)
@@ -128,11 +129,11 @@ fn all(text: &[u8])
     let mut at = 0;
     while at < text.len() {
         let end = hex::find(text, at, b'\n');
-        let n = record(&text[at..end], records);
+        let found = record(&text[at..end], records);
         records += 1;
-        passed += n;
-        zeros += refused(&text[at..end]);
-        if n < 4 && failing == 0 {
+        passed += found.passed;
+        zeros += found.zeros;
+        if found.passed < 4 && failing == 0 {
             failing = records;
         }
         at = end + 1;

@@ -1,9 +1,6 @@
 -- What is joined so far is zero exactly where those bytes are. Assumes nothing.
 use borrow.Author.Needs.{needs}
 use Prim.Native.Nat.{_-_}
-use lib.ListN.{length}
-use mathlib.Core.Path.{_≡_}
-use native.Mathlib.Omega.{arith}
 use Rattle.aes.proofs.Joined.{Joined, joined-none, joined-more, joined-all}
 use Rattle.aes.proofs.zero_key.Statement.{statement}
 use Rattle.aes.proofs.zero_key.Tie as tie
