@@ -1,6 +1,6 @@
 # make            proves the crates and builds target/lib/liblocker_aes.a and .so   (V=1 shows all that the prover says)
 # make install    puts header, libraries and locker_aes.pc below PREFIX             (DESTDIR before it, for packagers)
-# make check      the gate      make demo   the main job      make examples   two more programs      make bench   the speed
+# make check      the gate      make demo   the main job      make examples   three more programs      make bench   the speed
 PREFIX     ?= /usr/local
 LIBDIR     ?= $(PREFIX)/lib
 INCLUDEDIR ?= $(PREFIX)/include

@@ -3,7 +3,7 @@
 //!
 //! 64-bit words, 4,096 blocks a run, the key expanded before; the contestants take turns, and the best of all runs
 //! counts. A run of expansion expands 1,024 keys. Before any clock starts, all must give the same bytes.
-use rust_aes::{Random, Width, words};
+use rust_aes::{Random, Width, check_value, words};
 use std::hint::black_box;
 use std::time::Instant;
 
@@ -15,6 +15,7 @@ unsafe extern "C" {
     fn locker_aes_expand64(k: *const u8, kn: usize, s: *mut u64, sn: usize) -> u32;
     fn locker_aes_encrypt64(s: *const u64, sn: usize, i: *const u8, n: usize, o: *mut u8, on: usize) -> u32;
     fn locker_aes_decrypt64(s: *const u64, sn: usize, i: *const u8, n: usize, o: *mut u8, on: usize) -> u32;
+    fn locker_aes_check64(s: *const u64, sn: usize, o: *mut u8, on: usize) -> u32;
     fn locker_aes(d: u32, k: *const u8, kn: usize, i: *const u8, n: usize, o: *mut u8, on: usize) -> u32;
     #[cfg(bearssl)]
     fn bear_expand(k: *const u8, kn: usize, s: *mut u64);
@@ -122,7 +123,7 @@ fn main() {
     print!("| | for a |");
     contestants.iter().for_each(|c| print!(" {} |", c.name));
     println!(" ours/Rust |\n|---|---|{}---|", "---|".repeat(contestants.len()));
-    let mut doors = vec![];
+    let mut beside = vec![];
     for key_len in [16, 32] {
         let key = &keys[..key_len];
         let mut schedules = vec![vec![0u64; words(key_len)]; contestants.len()];
@@ -157,11 +158,32 @@ fn main() {
             }),
         });
         let [once, each] = [door[0], door[1]].map(|ns| ns / (BYTES / 16) as f64);
-        doors.push(format!(
+        beside.push(format!(
             "AES-{}: decrypting by the door {each:.2} ns a block, with a schedule made once {once:.2}",
             8 * key_len
         ));
+
+        // A key check value, beside the two encryptions of a batch that it is made of, the second of what the first gave.
+        let (s, n, mut value) = (schedules[1].as_ptr(), schedules[1].len(), [0u8; 3]);
+        let check = best(runs, &[false, true], |_, check| {
+            for _ in 0..KEYS {
+                match check {
+                    false => {
+                        (ours.crypt)(0, &schedules[1], black_box(&input[..BATCH]), black_box(&mut output[..BATCH]));
+                        (ours.crypt)(0, &schedules[1], black_box(&output[..BATCH]), black_box(&mut input[..BATCH]));
+                    }
+                    true => assert_eq!(unsafe { locker_aes_check64(s, n, black_box(&mut value).as_mut_ptr(), 3) }, 0),
+                }
+            }
+        });
+        assert_eq!(value, check_value(&schedules[0]), "the check values differ");
+        let [two, one] = [check[0], check[1]].map(|ns| ns / KEYS as f64);
+        beside.push(format!(
+            "AES-{}: a key check value {one:.1} ns, two encryptions of a batch {two:.1}, {:.3} of it",
+            8 * key_len,
+            one / two
+        ));
     }
-    doors.iter().for_each(|line| println!("{line}"));
+    beside.iter().for_each(|line| println!("{line}"));
     println!("ok bench: {runs} interleaved runs of each, the same bytes from all {}", contestants.len());
 }

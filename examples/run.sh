@@ -4,7 +4,7 @@ top=$(cd "$(dirname "$0")/.." && pwd)
 . "$top/tools/common.sh"
 . "$top/tools/fresh.sh"
 strict="-Wall -Wextra -Wpedantic -Werror -I include"
-for example in door many; do
+for example in door many check; do
     # shellcheck disable=SC2086 # the flags are words
     {
         $CC -std=c99 $strict ${CFLAGS:--O2} -o "$out/$example" examples/$example.c "$lib"
@@ -15,4 +15,4 @@ for example in door many; do
         diff "$program.out" "examples/$example.expected" || fail "$program wrote something else than examples/$example.expected"
     done
 done
-echo "ok examples: door and many, as C and as C++, wrote what they should"
+echo "ok examples: door, many and check, as C and as C++, wrote what they should"

@@ -51,7 +51,7 @@
  *    batch, and in the end erase the schedule and call locker_aes_clear_stack() (examples/many.c).
  *  - 64 or 32: 64. A batch of four blocks takes little longer than one of two in 32. The functions in 32 are for
  *    schedules of 32-bit words, which are laid out as the Rust crate aes lays them out on 32-bit machines.
- *  - To compare keys without showing them: locker_aes_check64().
+ *  - To compare keys without showing them: locker_aes_check64() (examples/check.c).
  *
  * What a call leaves behind
  * -------------------------
@@ -86,7 +86,7 @@ extern "C" {
 
 /* The library's version (CHANGELOG.md), and the number in its shared library's name: raised when a program that was
    compiled before can no longer run with it. */
-#define LOCKER_AES_VERSION "0.3.0"
+#define LOCKER_AES_VERSION "0.4.0"
 #define LOCKER_AES_ABI     1
 
 /* The answers. */
@@ -170,11 +170,16 @@ uint32_t locker_aes_decrypt64(const uint64_t *schedule, size_t schedule_len, con
                               uint8_t *output, size_t output_len);
 
 /*
- * The key check value of a schedule: the first three bytes of the encryption, in slot 0, of sixteen zero bytes.
+ * The key check value of a schedule: the first three bytes of the CMAC (NIST SP 800-38B, full-length tag) of sixteen
+ * zero bytes, by the cipher of slot 0. At either width a key has one check value. It takes the time of two batches.
+ *
+ * Before 0.4.0 it was the first three bytes of the encryption of sixteen zero bytes. Values kept from then do not agree
+ * with those of now, and have to be made again.
  *
  * Answers 2 (schedule_len is neither 88 nor 120), 4 (output_len is not 3), or 0.
  *
- * Remains on the stack: as after encryption, and the whole encrypted block.
+ * Remains on the stack: as after encryption, the whole tag, the encrypted zeros, and CMAC's subkey K1, with which other
+ * tags can be forged from one that is known.
  */
 LOCKER_AES_MUST_USE
 uint32_t locker_aes_check32(const uint32_t *schedule, size_t schedule_len, uint8_t *output, size_t output_len);

@@ -165,7 +165,8 @@ def speed():
 PROVES = {
     "fips197": "FIPS-197 byte by byte; what undoes what, and the check of everything linear",
     "lanes": "where bytes stand in words, how a schedule is read; what a word program does to every slot",
-    "appendices": "the worked examples of FIPS-197's appendices A and C, computed from the definitions",
+    "sp800_38b": "CMAC of a block from SP 800-38B; doubling is one-to-one",
+    "appendices": "the standards' worked examples, computed from the definitions",
     "outcome": "answers and refusals as values, and their laws",
     "calls": "what each public call promises; both sides of each limit, computed",
     "utils": "swaps, rotations, and eight words as one value",
@@ -176,17 +177,18 @@ PROVES = {
     "mix_columns": "the four forms are MixColumns between row shifts, and their inverses",
     "schedule": "an expanded key reads as FIPS-197's round keys, in every slot, and nothing else does",
     "cipher": "a batch under any schedule words is Cipher, or InvCipher, slot by slot",
+    "cmac": "doubling, subkeys and the tag of a block are SP 800-38B's, in slot 0",
     "aes": "the public calls: which number, and every byte afterwards, for all inputs",
     "theorems": "what the promises imply, and the wrong programs that cannot meet them",
     "host": "the C door and the exported calls keep the same promises",
     "uses": "what a caller may build on the exported promises alone",
 }
-NO_CODE = {"fips197", "lanes", "appendices", "outcome", "calls", "theorems"}
+NO_CODE = {"fips197", "lanes", "sp800_38b", "appendices", "outcome", "calls", "theorems"}
 # the row and the column of each, so that a line that passes a row passes it between boxes
 PLACES = {
-    "fips197": (0, 2), "outcome": (0, 5), "lanes": (1, 2), "appendices": (1, 3.5), "utils": (2, 2), "calls": (2, 5), "word": (3, 0), "shift_rows": (3, 1),
-    "round_keys": (3, 2), "sbox": (3, 3), "mix_columns": (3, 4), "schedule": (4, 1), "cipher": (4, 2.5), "aes": (5, 2), "theorems": (5, 4.5),
-    "host": (6, 2), "uses": (7, 3),
+    "fips197": (0, 2), "outcome": (0, 5), "lanes": (1, 2), "sp800_38b": (1, 4.5), "utils": (2, 2), "appendices": (2, 3.5), "calls": (2, 5), "word": (3, 0),
+    "shift_rows": (3, 1), "round_keys": (3, 2), "sbox": (3, 3), "mix_columns": (3, 4), "schedule": (4, 1), "cipher": (4, 2.5), "cmac": (5, 4),
+    "aes": (6, 2), "theorems": (6, 4.5), "host": (7, 2), "uses": (8, 3),
 }
 
 

@@ -97,6 +97,7 @@ static inline void content(const struct call *c, uint32_t direction, void *const
 {
     const struct size *z = size_for(c, n[0]);
     int decrypts = c->gives == DECRYPTED || (c->gives == AS_DIRECTED && direction == 1);
+    void (*does)(uint8_t *, const uint8_t *, size_t) = c->gives == CHECK_VALUE ? tag : decrypts ? inv_cipher : cipher;
     uint8_t keys[MOST_KEYS];
     size_t slot;
 
@@ -109,7 +110,7 @@ static inline void content(const struct call *c, uint32_t direction, void *const
         uint8_t block[16] = {0};
         if (c->takes[0] == 's') read_schedule(c->w, at[0], z->rounds, slot, keys);
         if (c->takes[1] == 'i') memcpy(block, (const uint8_t *)at[1] + 16 * slot, 16);
-        (decrypts ? inv_cipher : cipher)(block, keys, z->rounds);
+        does(block, keys, z->rounds);
         memcpy((uint8_t *)to + 16 * slot, block, c->gives == CHECK_VALUE ? 3 : 16);
     }
 }

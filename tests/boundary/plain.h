@@ -1,7 +1,7 @@
 /*
- * The judge: AES byte by byte from FIPS-197 (its sections beside each part), and docs/SCOPE.md's layout and rule for
- * reading a schedule. It shares nothing with the library. Nothing is typed in that can be computed, and the standard's
- * examples judge the judge first: plain_begin() answers the first that it misses.
+ * The judge: AES byte by byte from FIPS-197 and CMAC of a block from SP 800-38B (their sections beside each part), and
+ * docs/SCOPE.md's layout and rule for reading a schedule. It shares nothing with the library. Nothing is typed in that
+ * can be computed, and the standards' examples judge the judge first: plain_begin() answers the first that it misses.
  */
 #ifndef PLAIN_H
 #define PLAIN_H
@@ -115,6 +115,23 @@ static inline void inv_cipher(uint8_t *s, const uint8_t *keys, size_t rounds) /*
     }
 }
 
+static inline void twice(uint8_t *s) /* SP 800-38B, 6.1: left by one bit, and R_128 where the first bit was set */
+{
+    int first = s[0] >> 7;
+    size_t n;
+    for (n = 0; n < 16; n++) s[n] = (uint8_t)(s[n] << 1 | (n < 15 ? s[n + 1] >> 7 : 0));
+    if (first) s[15] ^= 0x87;
+}
+
+static inline void tag(uint8_t *s, const uint8_t *keys, size_t rounds) /* SP 800-38B, 6.2, of one complete block */
+{
+    uint8_t k1[16] = {0};
+    cipher(k1, keys, rounds);
+    twice(k1);
+    add(s, k1);
+    cipher(s, keys, rounds);
+}
+
 /* SCOPE, "Layout": the bit of each of eight words in which byte n of a slot's block stands. */
 static inline size_t place(const struct width *w, size_t n, size_t slot)
 {
@@ -179,6 +196,11 @@ static inline const char *plain_begin(void)
     static const uint8_t c_cipher[3][17] = {"\x69\xc4\xe0\xd8\x6a\x7b\x04\x30\xd8\xcd\xb7\x80\x70\xb4\xc5\x5a",
                                             "\xdd\xa9\x7c\xa4\x86\x4c\xdf\xe0\x6e\xaf\x70\xa0\xec\x0d\x71\x91",
                                             "\x8e\xa2\xb7\xca\x51\x67\x45\xbf\xea\xfc\x49\x90\x4b\x49\x60\x89"};
+    /* SP 800-38B, D.1: the key is B's, and the tag that of example 2; in D.3, whose L has the first bit set, K1. */
+    static const uint8_t d_message[] = "\x6b\xc1\xbe\xe2\x2e\x40\x9f\x96\xe9\x3d\x7e\x11\x73\x93\x17\x2a";
+    static const uint8_t d_tag[] = "\x07\x0a\x16\xb4\x6b\x4d\x41\x44\xf7\x9b\xdd\x9d\xd0\x4a\x28\x7c";
+    static const uint8_t d_l[] = "\xe5\x68\xf6\x81\x94\xcf\x76\xd6\x17\x4d\x4c\xc0\x43\x10\xa8\x54";
+    static const uint8_t d_k1[] = "\xca\xd1\xed\x03\x29\x9e\xed\xac\x2e\x9a\x99\x80\x86\x21\x50\x2f";
     /* P1 to P4: a block's byte, and the one word that it gives. */
     static const struct {
         const struct width *w;
@@ -202,6 +224,12 @@ static inline const char *plain_begin(void)
     memcpy(s, b_plain, 16);
     cipher(s, keys, 10);
     if (memcmp(s, b_cipher, 16)) return "FIPS-197 B";
+    memcpy(s, d_message, 16);
+    tag(s, keys, 10);
+    if (memcmp(s, d_tag, 16)) return "SP 800-38B D.1";
+    memcpy(s, d_l, 16);
+    twice(s);
+    if (memcmp(s, d_k1, 16)) return "SP 800-38B D.3";
     for (i = 0; i < 32; i++) count[i] = (uint8_t)i;
     for (i = 0; i < 16; i++) plain[i] = (uint8_t)(i * 0x11);
     for (n = 16; n <= 32; n += 8) {

@@ -13,6 +13,8 @@ enum fault {
     /* what is written */
     other_direction, blocks_swapped, slots_swapped, end_unwritten, added_to_output, wrong_for_one_bit,
     wrong_for_one_slot, half_key, one_bit, slot_empty, last_key_shifted, nots_on_key_0,
+    /* the check value, made by the real encryption: encrypted zeros, the doubling, the subkey */
+    old_value, no_87, bytes_turned, second_subkey, branches_on_carry,
     /* the number */
     output_tested_first, direction_tested_first, takes_one_more, cut_to_8, cut_to_16, cut_to_32, direction_cut,
     /* the test for a key of zeros, which ends at the first byte that is none in all of these */
@@ -65,6 +67,40 @@ static void shift_key(uint8_t *words, size_t word)
         }
         memcpy(words + word * p, &shifted, word);
     }
+}
+
+/* A block doubled, as SP 800-38B has it but for the fault. */
+static void twice(uint8_t *s)
+{
+    const size_t first = FAULT == bytes_turned ? 15 : 0, last = 15 - first, on = FAULT == bytes_turned ? (size_t)-1 : 1;
+    const uint8_t carry = s[first] >> 7;
+    size_t n;
+    for (n = first; n != last; n += on) s[n] = (uint8_t)(s[n] << 1 | s[n + on] >> 7);
+    s[last] = (uint8_t)(s[last] << 1);
+    if (FAULT == no_87) return;
+    if (FAULT != branches_on_carry) s[last] ^= 0x87 & -carry;
+    else if (carry) {
+        KEEP(s);
+        s[last] ^= 0x87;
+    }
+}
+
+/* The check value with the fault. */
+static void check_again(enum call call, void *schedule, size_t words, uint8_t *out)
+{
+    uint8_t zeros[64] = {0}, block[64] = {0};
+    void *const at[3] = {schedule, zeros, block};
+    const size_t bytes = call == check32 ? 32 : 64, n[3] = {words, bytes, bytes};
+    const enum call encrypt = call == check32 ? encrypt32 : encrypt64;
+
+    if (real(encrypt, 0, at, n)) return;
+    if (FAULT != old_value) {
+        memcpy(zeros, block, 16);
+        twice(zeros);
+        if (FAULT == second_subkey) twice(zeros);
+        if (real(encrypt, 0, at, n)) return;
+    }
+    memcpy(out, block, 3);
 }
 
 static inline uint32_t shim(enum call call, uint32_t direction, const void *a, size_t an, const void *b, size_t bn,
@@ -148,6 +184,7 @@ static inline uint32_t shim(enum call call, uint32_t direction, const void *a, s
         __asm__("" : "+r"(hidden)); /* the compiler must not know that it holds zeros */
         out[0] ^= hidden[HAS(looks_up) ? first[0] : *(const uint8_t *)b];
     }
+    if (CALL == call && FAULT >= old_value && FAULT <= branches_on_carry) check_again(call, at[0], n[0], out);
     if (HAS(blocks_swapped)) {
         memcpy(end, out + size - 16, 16);
         memcpy(out + size - 16, out + size - 32, 16);

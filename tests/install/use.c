@@ -24,12 +24,14 @@ static void expect(int holds, const char *what)
         expect(locker_aes_decrypt##BITS(schedule, words, out, n, back, n) == LOCKER_AES_OK, "decrypt" #BITS);          \
         expect(memcmp(out, expected, n) == 0 && memcmp(back, plain, n) == 0, "blocks, width " #BITS);                  \
         expect(locker_aes_check##BITS(schedule, words, check, sizeof check) == LOCKER_AES_OK, "check" #BITS);          \
+        expect(memcmp(check, value, sizeof check) == 0, "check value, width " #BITS);                                  \
     } while (0)
 
 int main(void)
 {
     static const uint8_t c1[] = "\x69\xc4\xe0\xd8\x6a\x7b\x04\x30\xd8\xcd\xb7\x80\x70\xb4\xc5\x5a";
     static const uint8_t c3[] = "\x8e\xa2\xb7\xca\x51\x67\x45\xbf\xea\xfc\x49\x90\x4b\x49\x60\x89";
+    static const uint8_t values[2][4] = {"\xbe\x7e\xd6", "\x37\x78\x22"}; /* by tools/check_values.py */
     uint8_t key[32], plain[64], expected[64], out[64], back[64], check[LOCKER_AES_CHECK];
     size_t key_len, i;
 
@@ -37,6 +39,7 @@ int main(void)
     for (i = 0; i < 64; i++) plain[i] = (uint8_t)(i % 16 * 0x11);
     for (key_len = 16; key_len <= 32; key_len += 16) {
         const size_t words = key_len == 16 ? LOCKER_AES_WORDS_128 : LOCKER_AES_WORDS_256;
+        const uint8_t *const value = values[key_len / 32];
         for (i = 0; i < 64; i += 16) memcpy(expected + i, key_len == 16 ? c1 : c3, 16);
         WIDTH(32);
         WIDTH(64);

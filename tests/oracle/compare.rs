@@ -4,7 +4,7 @@
 //! elements around each buffer. The refusals are not the Rust's; they are stated here from docs/SCOPE.md's table. The
 //! Rust takes a key of zeros: ours must refuse it, and the other calls take the Rust's schedule of it. (The words of
 //! that schedule are compared by crates/replay_main, below the public call.)
-use rust_aes::{Element, FIPS_KEYS, Random, SIZES, Width, hex, words};
+use rust_aes::{Element, FIPS_KEYS, Random, SIZES, Width, check_value, hex, words};
 
 type Expand<W> = unsafe extern "C" fn(*const u8, usize, *mut W, usize) -> u32;
 type Crypt<W> = unsafe extern "C" fn(*const W, usize, *const u8, usize, *mut u8, usize) -> u32;
@@ -77,11 +77,8 @@ fn crypted<W: Width>(direction: u32, schedule: &[W], input: &[u8], output: &[u8]
 }
 
 fn checked<W: Width>(schedule: &[W], output: &[u8]) -> Outcome<u8> {
-    outcome(&[(2, bad_schedule(schedule)), (4, output.len() != 3)], output, |to| {
-        let mut batch = vec![0; W::BATCH];
-        W::crypt(0, schedule, &vec![0; W::BATCH], &mut batch);
-        to.copy_from_slice(&batch[..3]);
-    })
+    let refusals = [(2, bad_schedule(schedule)), (4, output.len() != 3)];
+    outcome(&refusals, output, |to| to.copy_from_slice(&check_value(schedule)))
 }
 
 fn by_door(direction: u32, key: &[u8], input: &[u8], output: &[u8]) -> Outcome<u8> {

@@ -124,6 +124,21 @@ pub trait Width: Element {
     fn crypt(direction: u32, schedule: &[Self], input: &[u8], output: &mut [u8]);
 }
 
+/// The key check value: the first three bytes of the CMAC (SP 800-38B) of sixteen zero bytes, by the crate's cipher in
+/// slot 0. The crate has no CMAC.
+pub fn check_value<W: Width>(schedule: &[W]) -> [u8; 3] {
+    let cipher = |block: u128| {
+        let (mut input, mut output) = (vec![0; W::BATCH], vec![0; W::BATCH]);
+        input[..16].copy_from_slice(&block.to_be_bytes());
+        W::crypt(0, schedule, &input, &mut output);
+        u128::from_be_bytes(output[..16].try_into().unwrap())
+    };
+    let l = cipher(0);
+    let k1 = if l >> 127 == 0 { l << 1 } else { (l << 1) ^ 0x87 };
+    let [a, b, c, ..] = cipher(k1).to_be_bytes();
+    [a, b, c]
+}
+
 fn array<T, const N: usize>(words: &mut [T]) -> &mut [T; N] {
     words.try_into().ok().unwrap()
 }

@@ -4,15 +4,15 @@
  *
  *  - Compared: the same call with another key, and with other blocks. Whatever differs depends on a secret, and that
  *    decides.
- *  - Searched for, to say what it is: the key's bytes, FIPS-197's round keys, words of the schedule, and the bitsliced
- *    states between any two steps of the rounds (each with any number of row shifts, with and without the 63). It
- *    counts only where something differs. Addresses and the stack protector's canary are new in each process, and the
- *    same in all its calls; with the zeros beside them they can equal such a word by chance. (In one process of 16 a
- *    return address did: 00 00 f0 f3 is a word of this key's 32-bit schedule.)
+ *  - Searched for, to say what it is: the key's bytes, FIPS-197's round keys, words of the schedule, the bitsliced
+ *    states between any two steps of the rounds (each with any number of row shifts, with and without the 63), and the
+ *    bytes of CMAC's L and K1. It counts only where something differs. Addresses and the stack protector's canary are
+ *    new in each process, and the same in all its calls; with the zeros beside them they can equal such a word by
+ *    chance. (In one process of 16 a return address did: 00 00 f0 f3 is a word of this key's 32-bit schedule.)
  *
  * The door must leave nothing on the stack. What the other calls leave is only shown (stack show); behind the header's
- * helper neither stack nor registers may keep anything. Four planted calls, and the calls without the helper, show that
- * the scan finds; a fifth, that it does not count what only looks like a schedule.
+ * helper neither stack nor registers may keep anything. Five planted calls, and the calls without the helper, show that
+ * the scan finds; a sixth, that it does not count what only looks like a schedule.
  */
 #include <stdio.h>
 #include <stdlib.h>
@@ -44,8 +44,10 @@ struct kind {
     const char *name;
     size_t size, count, seen;
     uint64_t word[MOST];
-} kinds[4] = {{.name = "schedule words"}, {.name = "key bytes"}, {.name = "round keys"}, {.name = "states"}};
-enum { SCHEDULE, KEY, ROUND_KEYS, STATES };
+} kinds[] = {
+    {.name = "schedule words"}, {.name = "key bytes"}, {.name = "round keys"}, {.name = "states"}, {.name = "subkey bytes"},
+};
+enum { SCHEDULE, KEY, ROUND_KEYS, STATES, SUBKEYS, KINDS };
 
 static int order(const void *a, const void *b)
 {
@@ -82,7 +84,7 @@ static void look_for_state(const struct width *w, uint8_t (*state)[16])
         }
 }
 
-/* The states between any two steps; a check value encrypts zeros. */
+/* The states between any two steps. */
 static void look_for_states(const struct width *w, int direction, const uint8_t *blocks, size_t rounds)
 {
     uint8_t state[4][16];
@@ -107,23 +109,34 @@ static void look_for_states(const struct width *w, int direction, const uint8_t 
         }
 }
 
+/* CMAC's L, which is encrypted zeros, or K1, which is twice that. */
+static void subkey(int doubled, uint8_t *to)
+{
+    memset(to, 0, 16);
+    cipher(to, keys, key_len / 4 + 6);
+    if (doubled) twice(to);
+}
+
 static void prepare(const struct call *call, const struct size *size)
 {
-    static const uint8_t zeros[64];
     const struct width *w = call->bits == 32 ? &w32 : &w64;
+    uint8_t batch[2][64] = {{0}}; /* what a check value encrypts: zeros, and K1 in slot 0 */
     int check = !strncmp(call->name, "check", 5);
     size_t i, k;
 
-    for (k = 0; k < 4; k++) {
+    subkey(1, batch[1]);
+    for (k = 0; k < KINDS; k++) {
         kinds[k].count = kinds[k].seen = 0;
-        kinds[k].size = k == KEY || k == ROUND_KEYS ? 4 : w->word;
+        kinds[k].size = k == SCHEDULE || k == STATES ? w->word : 4;
     }
     for (i = 0; i < words; i++)
         look_for(&kinds[SCHEDULE], w == &w32 ? (const void *)&schedule32[i] : (const void *)&schedule64[i]);
     for (i = 0; i + 4 <= size->key; i++) look_for(&kinds[KEY], key + i);
     for (i = size->key; i < 16 * (size->rounds + 1); i += 4) look_for(&kinds[ROUND_KEYS], keys + i);
-    look_for_states(w, call->direction, check ? zeros : input, size->rounds);
-    for (k = 0; k < 4; k++) qsort(kinds[k].word, kinds[k].count, 8, order);
+    for (i = 0; i < (check ? 2 : 1); i++) look_for_states(w, call->direction, check ? batch[i] : input, size->rounds);
+    for (k = 0; k < 2; k++)
+        for (subkey((int)k, batch[0]), i = 0; i + 4 <= 16; i++) look_for(&kinds[SUBKEYS], batch[0] + i);
+    for (k = 0; k < KINDS; k++) qsort(kinds[k].word, kinds[k].count, 8, order);
 }
 
 /* Whether n bytes of the dead stack differ between the turns. */
@@ -139,7 +152,7 @@ static void search(size_t deep)
     static uint8_t met[MOST];
     const uint8_t *bytes = (const uint8_t *)dead[0];
     size_t k, at;
-    for (k = 0; k < 4; k++) {
+    for (k = 0; k < KINDS; k++) {
         struct kind *kind = &kinds[k];
         memset(met, 0, sizeof met);
         for (at = DEEP - deep; at + kind->size <= DEEP; at++) {
@@ -213,7 +226,7 @@ static struct left run(void (*call)(void), const struct call *of, const struct s
 static void say(const char *how, const struct call *call, const struct left *left)
 {
     printf("%-12s AES-%zu %-7s %5zu deep;", call->name, 8 * key_len, how, left->deep);
-    for (size_t k = 0; k < 4; k++) printf(" %zu of %zu %s,", kinds[k].seen, kinds[k].count, kinds[k].name);
+    for (size_t k = 0; k < KINDS; k++) printf(" %zu of %zu %s,", kinds[k].seen, kinds[k].count, kinds[k].name);
     printf(" %zu bytes of stack and %zu of registers depend on key or blocks\n", left->on_stack, left->in_registers);
 }
 
@@ -261,6 +274,14 @@ static void plant_state(void) /* the state before the last round key of an encry
     answer = 0;
 }
 
+static void plant_subkey(void)
+{
+    uint8_t k1[16];
+    subkey(1, k1);
+    keep(k1);
+    answer = 0;
+}
+
 static uint64_t alike[120];
 static void plant_alike(void) /* words that chance made equal to turn 0's schedule: the same in each turn */
 {
@@ -278,7 +299,8 @@ int main(int argc, char **argv)
     } plants[] = {{plant_schedule, SCHEDULE, 80},
                   {plant_key, KEY, 13},
                   {plant_round_keys, ROUND_KEYS, 40},
-                  {plant_state, STATES, 8}};
+                  {plant_state, STATES, 8},
+                  {plant_subkey, SUBKEYS, 13}};
     static const struct call planted = {"planted", NULL, NULL, 64, 0, 0};
     const char *fault = plain_begin();
     size_t size, i, deepest = 0, bare = 0, held = 0;

@@ -1,1 +1,1 @@
-// The worked examples of FIPS-197's appendices, no code: see proofs/Examples.antt.
+// The worked examples of the standards' appendices, no code: see proofs/Examples.antt (FIPS-197) and proofs/Cmac.antt (SP 800-38B).

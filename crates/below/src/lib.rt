@@ -1,3 +1,12 @@
 // Below the public call, for programs over published vectors and the Rust's answers, of which some have a key of zeros. The library has none of this.
 pub mod w32;
 pub mod w64;
+
+ghost use Prim.Native.Nat.{_≤_};
+
+// The schedule's words for a key of so many bytes. Other lengths are the calls' to refuse.
+pub fn words_for(key: usize) -> usize
+    ensures { λ r. ⌜ r ≤ 120 ⌝ }
+{
+    if key == 16 { 88 } else { 120 }
+}

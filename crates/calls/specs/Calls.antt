@@ -4,8 +4,9 @@ use mathlib.Core.Bool.{Bool, true, false, not, _&&_, _||_, cond}
 use mathlib.Core.List.{List, [], _∷_}
 use Prim.Native.Nat.{ℕ, _*_}
 use lib.Dec.{eqb}
-use lib.ListN.{length, take, replicate}
+use lib.ListN.{length, take}
 use Rattle.fips197.specs.Aes.{keyExpansion, cipher, invCipher}
+use Rattle.sp800_38b.specs.Cmac.{zeros, cmacOfBlock}
 use Rattle.lanes.specs.Layout.{Width, w64, slots}
 use Rattle.lanes.specs.Sizes.{keySize, scheduleSize}
 use Rattle.lanes.specs.Schedule.{reading, scheduleOf, eachBlock, cryptedBatch}
@@ -68,9 +69,9 @@ encryptOutcome = cryptOutcome cipher
 abbrev pub decryptOutcome : Width → List ℕ → List ℕ → List ℕ → Outcome (List ℕ)
 decryptOutcome = cryptOutcome invCipher
 
--- the key check value: the first three bytes of the encryption, in slot 0, of sixteen zero bytes; 2 for the schedule's length, 4 for the output's
+-- the key check value: the first three bytes of the CMAC, by slot 0's Cipher, of sixteen zero bytes; 2 for the schedule's length, 4 for the output's
 unfoldable pub checkValue : Width → List ℕ → List ℕ
-checkValue w schedule = take 3 (cipher (keysIn w schedule 0) (replicate 16 0))
+checkValue w schedule = take 3 (cmacOfBlock (cipher (keysIn w schedule 0)) (zeros 16))
 
 unfoldable pub checkOutcome : Width → List ℕ → List ℕ → Outcome (List ℕ)
 checkOutcome w schedule output =

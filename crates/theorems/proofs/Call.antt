@@ -1,6 +1,6 @@
 -- What a call is, and what holds of every call: two answers that meet its promise are equal, a refusal changes nothing, and which programs cannot
 -- meet it. Stated once; Calls.antt has the five calls. Assumes nothing.
-use mathlib.Core.Path.{_≡_, sym, _∙_}
+use mathlib.Core.Path.{_≡_, refl, sym, _∙_}
 use mathlib.Core.List.{List}
 use Prim.Native.Nat.{ℕ}
 use Rattle.outcome.specs.Outcome.{Outcome, answers}
@@ -86,10 +86,14 @@ module _ (C : Call) where
       → (number : C .Args → List ℕ → ℕ) → ((a : C .Args) (o : List ℕ) → number a o ≡ 0 → ⊥) → Refuted (λ a o. answers (number a o) o)
   refuses-everything {a} {o} can number h m = h a o (same-number (agreed m can))
 
-  -- one that answers 0 and writes g, which somewhere is not the result
+  -- one that somewhere answers 0 and writes what is not the result
+  pub answers-another : {a : C .Args} {o : List ℕ} → Can C a o → (P : Program) {x : List ℕ} → P a o ≡ answers 0 x → (x ≡ C .result a → ⊥) → Refuted P
+  answers-another can P e h m = h (same-left (sym e ∙ agreed m can))
+
+  -- one that always answers 0 and writes g, which somewhere is not the result
   pub writes-another : {a : C .Args} {o : List ℕ} → Can C a o
       → (g : C .Args → List ℕ → List ℕ) → (g a o ≡ C .result a → ⊥) → Refuted (λ a o. answers 0 (g a o))
-  writes-another can g h m = h (same-left (agreed m can))
+  writes-another can g h = answers-another can (λ a o. answers 0 (g a o)) refl h
 
   -- one that writes the same each time, where two results differ
   pub writes-the-same : {a b : C .Args} {o p : List ℕ} → Can C a o → Can C b p → (C .result a ≡ C .result b → ⊥)

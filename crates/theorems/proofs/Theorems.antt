@@ -7,17 +7,19 @@ use mathlib.Core.Bool.{true}
 use mathlib.Core.List.{List}
 use Prim.Native.Nat.{ℕ, zero, suc, _+_, _*_, _≤_, _<_}
 use native.Mathlib.Omega.{arith}
-use lib.Dec.{lit<, lit≤}
+use lib.Dec.{lit≤}
 use lib.ListN.{length, take, replicate, length-replicate, length-map}
-use Rattle.fips197.specs.Bytes.{Fit, Data}
+use Rattle.fips197.specs.Bytes.{Fit, Block, Data}
 use Rattle.fips197.specs.Aes.{range, sixteen, cipher, invCipher, keyWords, keyExpansion, roundsFor}
 use Rattle.fips197.proofs.Ciphers.{Blocks}
 use Rattle.fips197.proofs.Keys.{expansion-blocks, expansion-one}
-use Rattle.lanes.specs.Layout.{Width, w32, w64, bits, slots}
+use Rattle.sp800_38b.specs.Cmac.{zeros, double, cmacOfBlock}
+use Rattle.sp800_38b.proofs.Laws.{tag-of-zeros}
+use Rattle.lanes.specs.Layout.{Width, w64, bits, slots}
 use Rattle.lanes.specs.Sizes.{keySize, scheduleSize}
 use Rattle.lanes.specs.Schedule.{reading, scheduleOf, eachBlock, cryptedBatch}
 use Rattle.lanes.proofs.Sizes.{Found, key-found}
-use Rattle.lanes.proofs.EachBlock.{Keeping, each-at, each-data, each-undone}
+use Rattle.lanes.proofs.EachBlock.{Keeping, some-slot, block-of, each-at, each-data, each-undone}
 use Rattle.schedule.proofs.Reading.{schedule-length, schedule-fits, schedule-reads, schedule-only, schedule-one}
 use Rattle.cipher.proofs.Batches.{Way, forth, backwards, crypted-slot, crypted-data, crypted-undone, crypted-one}
 use Rattle.outcome.specs.Outcome.{answers}
@@ -258,25 +260,30 @@ module _ {w : Width} {key s i x : List ℕ} (e : Expands w key s) where
 abbrev pub Checks : Width → List ℕ → List ℕ → Type 0
 Checks w s x = Made (checkCall w) s x
 
-first-slot : (w : Width) → 0 < slots w
-first-slot w32 = lit< tt
-first-slot w64 = lit< tt
+-- the first three bytes of the CMAC of sixteen zero bytes, by Cipher under these round keys
+abbrev pub checkOf : List (List ℕ) → List ℕ
+checkOf ks = take 3 (cmacOfBlock (cipher ks) (zeros 16))
 
-zero-first : (w : Width) → sixteen (replicate (16 * slots w) 0) 0 ≡ replicate 16 0
-zero-first w32 = refl
-zero-first w64 = refl
-
--- it is the first three bytes of slot 0 of what encrypt answers for a batch of zeros
-pub check-is-slot-0 : {w : Width} {s x y : List ℕ} → Checks w s x → Encrypts w s (replicate (16 * slots w) 0) y → x ≡ take 3 (sixteen y 0)
+-- it is made of slot 0 of what encrypt answers: for zeros there, and then for twice what these came to
+pub check-is-slot-0 : {w : Width} {s x i y j z : List ℕ} → Checks w s x → Encrypts w s i y → sixteen i 0 ≡ zeros 16
+    → Encrypts w s j z → sixteen j 0 ≡ double (sixteen y 0) → x ≡ take 3 (sixteen z 0)
 unfolding checkValue
-check-is-slot-0 {w} {s} m n =
+check-is-slot-0 {w} {s} {y = y} m n e o f =
+    let ciph = cipher (keysIn w s 0) in
+    let l : ciph (zeros 16) ≡ sixteen y 0 = sym (encrypt-is-cipher n 0 (some-slot w) ∙ ap ciph e) in
+    let b : Block (ciph (zeros 16)) = rw l (block-of (encrypt-batch n) 0 (some-slot w)) in
     leaves (checkCall w) m
-    ∙ ap (take 3) (sym (encrypt-is-cipher n 0 (first-slot w) ∙ ap (cipher (keysIn w s 0)) (zero-first w)))
+    ∙ ap (take 3) (tag-of-zeros ciph b ∙ ap (λ (t : List ℕ). ciph (double t)) l ∙ sym (encrypt-is-cipher o 0 (some-slot w) ∙ ap ciph f))
 
--- under an expanded key it is FIPS-197's
-pub check-under-key : {w : Width} {key s x : List ℕ} → Expands w key s → Checks w s x → x ≡ take 3 (cipher (keyExpansion (keyWordsOf key) key) (replicate 16 0))
+-- so nothing but slot 0's round keys decides it
+pub check-slots-apart : {w : Width} {s t x y : List ℕ} → Checks w s x → Checks w t y → keysIn w s 0 ≡ keysIn w t 0 → x ≡ y
 unfolding checkValue
-check-under-key {w} e m = leaves (checkCall w) m ∙ ap (λ (ks : List (List ℕ)). take 3 (cipher ks (replicate 16 0))) (expand-reads e 0 (first-slot w))
+check-slots-apart {w} m n e = leaves (checkCall w) m ∙ ap checkOf e ∙ sym (leaves (checkCall w) n)
+
+-- under an expanded key it is SP 800-38B's, by FIPS-197 with that key, at either width
+pub check-under-key : {w : Width} {key s x : List ℕ} → Expands w key s → Checks w s x → x ≡ checkOf (roundKeys key)
+unfolding checkValue
+check-under-key {w} e m = leaves (checkCall w) m ∙ ap checkOf (expand-reads e 0 (some-slot w))
 
 -- ---- THE DOOR, what the purge job calls: direction 0 encrypts and 1 decrypts
 abbrev pub Doors : ℕ → List ℕ → List ℕ → List ℕ → Type 0

@@ -1,10 +1,10 @@
 -- PROGRAMS THAT ARE WRONG CANNOT MEET THE PROMISES: one that refuses everything, one that writes the same bytes each time, one that copies its
 -- input, one that writes nothing and answers 0, one that does the first round and skips the rest, one that fills every slot from slot 0; of each
--- call, and of the door in both directions. Each is refuted on a call that can be made (Witness.antt). And, at the end, one that takes a key of zeros.
--- docs/PROMISES.md has the table. Assumes nothing.
+-- call, and of the door in both directions. Each is refuted on a call that can be made (Witness.antt). And one that gives the check value of before, and,
+-- at the end, one that takes a key of zeros. docs/PROMISES.md has the table. Assumes nothing.
 use mathlib.Core.Path.{_≡_, refl, sym, _∙_, ap, ap₂}
 use mathlib.Core.Bool.{not, _||_}
-use mathlib.Core.List.{List, [], _++_}
+use mathlib.Core.List.{List, [], _∷_, _++_}
 use Prim.Native.Nat.{ℕ, _+_, _-_, _*_, _/_, _%_, _≤_, _<_}
 use native.Mathlib.Nat.{mod-eq-of-lt}
 use native.Mathlib.Omega.{arith}
@@ -13,7 +13,9 @@ use lib.ListN.{length, getD, take, drop, replicate, getD-replicate, length-repli
 use lib.Seq.{getD-drop, getD-append-add, getD-take, length-take-le}
 use Rattle.fips197.specs.Bytes.{Fit}
 use Rattle.fips197.specs.Aes.{sixteen, shiftRows, cipher, invCipher}
-use Rattle.appendices.proofs.Examples.{keyA1, roundKeysA1}
+use Rattle.appendices.proofs.Examples.{keyA1, roundKeysA1, keyA3}
+use Rattle.appendices.proofs.Cmac.{aes, zeros-A1, zeros-A3}
+use Rattle.sp800_38b.specs.Cmac.{zeros, cmacOfBlock}
 use Rattle.lanes.specs.Layout.{Width, w32, w64, bits, slots, slot}
 use Rattle.lanes.specs.Sizes.{keySize, scheduleSize}
 use Rattle.lanes.specs.Schedule.{wordsAt, stored, add63, rowsShifted, readKey, reading, scheduleOf, eachBlock}
@@ -26,13 +28,13 @@ use Rattle.calls.specs.Calls.{keyWordsOf, scheduleWords, roundsOf, keysOf, keys
 use Rattle.calls.proofs.Directions.{one-of}
 use Rattle.calls.proofs.ZeroKey.{no-zeros}
 use Rattle.theorems.proofs.Call.{Call, Can, Program, MeetsAll, Refuted, can-make, refuses-everything, writes-another, writes-the-same}
-use Rattle.theorems.proofs.Call.{writes-by-buffer, takes-too-much}
+use Rattle.theorems.proofs.Call.{answers-another, writes-by-buffer, takes-too-much}
 use Rattle.theorems.proofs.Calls.{CryptArgs, DoorArgs, expandCall, cryptCall, encryptCall, decryptCall, checkCall, doorCall, doorResult}
-use Rattle.theorems.proofs.Theorems.{crypt-is, door-is, keys-of, roundKeys}
+use Rattle.theorems.proofs.Theorems.{crypt-is, check-under-key, door-is, keys-of, roundKeys}
 use Rattle.theorems.proofs.Witness.{zero-block, one-block, batch, batch-data, block-0, block-1, slot-1, first, block-at, Sample, A1, A3, ones}
-use Rattle.theorems.proofs.Witness.{words-A1, words-ones, ones-key, room, can-expand, words, keys-are, crypt-args, can-crypt, can-check, door-args}
-use Rattle.theorems.proofs.Witness.{can-door, firstRound, firstUnround, first-round-length, first-unround-length, cipher-one, cipher-zero}
-use Rattle.theorems.proofs.Witness.{sample-key, fit-replicate, small, invCipher-one, invCipher-zero, round-one, round-zero, unround-one, cipher-zero-A3}
+use Rattle.theorems.proofs.Witness.{words-A1, words-A3, words-ones, ones-key, room, can-expand, words, expanded, keys-are, crypt-args, can-crypt}
+use Rattle.theorems.proofs.Witness.{can-check, door-args, can-door, firstRound, firstUnround, first-round-length, first-unround-length, cipher-one}
+use Rattle.theorems.proofs.Witness.{cipher-zero, sample-key, fit-replicate, small, invCipher-one, invCipher-zero, round-one, round-tag, unround-one}
 
 -- whatever numbers a program refuses with
 abbrev pub RefusesAll : Call → Type 0
@@ -466,41 +468,53 @@ module _ (w : Width) where
 
 -- ---- the key check value, at each width. (It has no input to copy, and one slot only.)
 module _ (w : Width) where
-  check-begins : (k : Sample) → getD (checkValue w (words w k)) 0 0 ≡ getD (cipher (k .keys) zero-block) 0 0
-  unfolding checkValue
-  check-begins k =
-      getD-take 3 (cipher (keysIn w (words w k) 0) zero-block) 0 0 (lit< tt)
-      ∙ ap (λ (ks : List (List ℕ)). getD (cipher ks zero-block) 0 0) (keys-are w k 0 (some-slot w))
+  check-is : (k : Sample) {t : List ℕ} → cmacOfBlock (cipher (roundKeys (k .key))) (zeros 16) ≡ t → checkValue w (words w k) ≡ take 3 t
+  check-is k e = check-under-key (expanded w k) (can-make (checkCall w) (can-check w k) refl) ∙ ap (take 3) e
 
-  check-A1 : getD (checkValue w (words w A1)) 0 0 ≡ 0x7d
+  -- of appendix A's keys it is what OpenSSL says
+  pub check-A1 : checkValue w (words w A1) ≡ 0x7a ∷ 0xd3 ∷ 0x86 ∷ []
   unfolding A1
-  check-A1 = check-begins A1 ∙ cipher-zero
+  check-A1 = check-is A1 (ap (λ (n : ℕ). cmacOfBlock (aes n keyA1) (zeros 16)) words-A1 ∙ zeros-A1)
 
-  check-A3 : getD (checkValue w (words w A3)) 0 0 ≡ 0xe5
+  pub check-A3 : checkValue w (words w A3) ≡ 0x1a ∷ 0x0b ∷ 0x2d ∷ []
   unfolding A3
-  check-A3 = check-begins A3 ∙ cipher-zero-A3
+  check-A3 = check-is A3 (ap (λ (n : ℕ). cmacOfBlock (aes n keyA3) (zeros 16)) words-A3 ∙ zeros-A3)
+
+  -- one that answers for A1's schedule what does not begin as it should
+  begins-another : (P : Program (checkCall w)) {x : List ℕ} → P (words w A1) (replicate 3 0) ≡ answers 0 x → (getD x 0 0 ≡ 0x7a → ⊥) → Refuted (checkCall w) P
+  begins-another P e h = answers-another (checkCall w) (can-check w A1) P e (λ z. h (ap (λ (l : List ℕ). getD l 0 0) (z ∙ check-A1)))
 
   pub check-refuses-everything : RefusesAll (checkCall w)
   check-refuses-everything = refuses-everything (checkCall w) (can-check w A1)
 
   pub check-writes-the-same : (same : List ℕ) → Refuted (checkCall w) (λ s o. answers 0 same)
   check-writes-the-same = writes-the-same (checkCall w) (can-check w A1) (can-check w A3)
-      (λ e. let z : _≡_ {A = ℕ} 0x7d 0xe5 = sym check-A1 ∙ ap (λ (l : List ℕ). getD l 0 0) e ∙ check-A3 in omega arith)
+      (λ e. let z : _≡_ {A = ℕ} 0x7a 0x1a = ap (λ (l : List ℕ). getD l 0 0) (sym check-A1 ∙ e ∙ check-A3) in omega arith)
 
   pub check-writes-nothing : Refuted (checkCall w) (λ s o. answers 0 o)
-  check-writes-nothing = writes-another (checkCall w) (can-check w A1) (λ s o. o)
-      (λ e. let z : _≡_ {A = ℕ} 0 0x7d = ap (λ (l : List ℕ). getD l 0 0) e ∙ check-A1 in omega arith)
+  check-writes-nothing = begins-another (λ s o. answers 0 o) refl (λ e. omega (arith, e))
 
-  pub check-first-round-only : Refuted (checkCall w) (λ s o. answers 0 (take 3 (firstRound (keysIn w s 0) zero-block)))
+  -- what a program writes of A1's schedule by its round keys in slot 0
+  by-keys : (g : List (List ℕ) → List ℕ) {v : ℕ} → getD (g roundKeysA1) 0 0 ≡ v → getD (take 3 (g (keysIn w (words w A1) 0))) 0 0 ≡ v
   unfolding A1
-  check-first-round-only = writes-another (checkCall w) (can-check w A1) (λ s o. take 3 (firstRound (keysIn w s 0) zero-block))
-      (λ e. let z : _≡_ {A = ℕ} 0xdc 0x7d = sym (begins-round) ∙ ap (λ (l : List ℕ). getD l 0 0) e ∙ check-A1 in omega arith)
-    where
-      begins-round : getD (take 3 (firstRound (keysIn w (words w A1) 0) zero-block)) 0 0 ≡ 0xdc
-      begins-round =
-          getD-take 3 (firstRound (keysIn w (words w A1) 0) zero-block) 0 0 (lit< tt)
-          ∙ ap (λ (ks : List (List ℕ)). getD (firstRound ks zero-block) 0 0) (keys-are w A1 0 (some-slot w))
-          ∙ round-zero
+  by-keys g e =
+      getD-take 3 (g (keysIn w (words w A1) 0)) 0 0 (lit< tt)
+      ∙ ap (λ (ks : List (List ℕ)). getD (g ks) 0 0) (keys-are w A1 0 (some-slot w)) ∙ e
+
+  pub check-first-round-only : Refuted (checkCall w) (λ s o. answers 0 (take 3 (cmacOfBlock (firstRound (keysIn w s 0)) (zeros 16))))
+  check-first-round-only = begins-another (λ s o. answers 0 (take 3 (cmacOfBlock (firstRound (keysIn w s 0)) (zeros 16)))) refl
+      (λ e. let z : _≡_ {A = ℕ} 0x52 0x7a = sym (by-keys (λ ks. cmacOfBlock (firstRound ks) (zeros 16)) round-tag) ∙ e in omega arith)
+
+  -- the rule of before: the encrypted zeros themselves, with every refusal right
+  abbrev pub checkBefore : List ℕ → List ℕ → Outcome (List ℕ)
+  checkBefore s o = refuse (eqb (roundsOf s) 0) 2 o (refuse (not (eqb (length o) 3)) 4 o (answers 0 (take 3 (cipher (keysIn w s 0) zero-block))))
+
+  pub check-as-before : Refuted (checkCall w) checkBefore
+  check-as-before =
+      let x = take 3 (cipher (keysIn w (words w A1) 0) zero-block) in
+      let answered : checkBefore (words w A1) (replicate 3 0) ≡ answers 0 x = rw (is-not (can-check w A1 .good .scheduled)) in
+      begins-another checkBefore answered
+      (λ e. let z : _≡_ {A = ℕ} 0x7d 0x7a = sym (by-keys (λ ks. cipher ks zero-block) cipher-zero) ∙ e in omega arith)
 
 -- ---- a key of zeros: a program that answers 0 is wrong, whatever it writes, at either width and by the door. Such a call is to be refused, so it is
 -- asked of a program that it agrees on all calls that can be made. Among the wrong ones are the promises as they were before, without a test for zeros

@@ -1,20 +1,23 @@
 -- From the contracts of the exported calls, `answers r x ≡ its outcome`, by the theorems of the calls: nothing else of crate host is known here.
 -- Once over the width. Assumes nothing.
-use mathlib.Core.Path.{_≡_, _∙_}
+use mathlib.Core.Path.{_≡_, refl, _∙_}
 use mathlib.Core.List.{List}
 use Prim.Native.Nat.{ℕ, _*_, _≤_}
 use native.Mathlib.Omega.{arith}
-use lib.Dec.{lit≤}
+use lib.Dec.{lit<, lit≤}
 use lib.ListN.{length, take, replicate, length-replicate}
 use lib.Seq.{take-take}
 use Rattle.fips197.specs.Bytes.{Fit}
-use Rattle.lanes.specs.Layout.{Width, w64, bits, slots}
+use Rattle.fips197.specs.Aes.{sixteen}
+use Rattle.sp800_38b.specs.Cmac.{double}
+use Rattle.lanes.specs.Layout.{Width, w32, w64, bits, slots}
 use Rattle.outcome.specs.Outcome.{answers}
 use Rattle.calls.specs.Calls.{Taken, scheduleWords, roundsOf, expandOutcome, encryptOutcome, decryptOutcome, checkOutcome, doorOutcome}
 use Rattle.theorems.proofs.Call.{answers-0, answers-0-only, refusal-changes-nothing}
 use Rattle.theorems.proofs.Calls.{expandCall, encryptCall, decryptCall, checkCall, doorCall}
 use Rattle.theorems.proofs.Theorems.{Expands, Encrypts, Decrypts, Checks, Doors, door-0-batch, door-1-undoes-0}
 use Rattle.theorems.proofs.Theorems.{expand-refuses-zeros, door-refuses-zeros, expand-schedule, encrypt-batch, decrypt-undoes-encrypt, check-is-slot-0}
+use Rattle.theorems.proofs.Witness.{fit-replicate}
 use Rattle.uses.specs.Promises.{Batches, Back, DoorBack, ScheduleBack, Agrees, Refused, Destroyed}
 
 -- ---- the door
@@ -123,33 +126,61 @@ module _ (w : Width) (key l i s o : List ℕ) (k : Fit 8 key) (g : Fit (bits w) 
           } in
           record { answered = answers-0 (decryptCall w) n; same = decrypt-undoes-encrypt m n }
 
--- ---- the check value and an encryption of zeros
-module _ (w : Width) (s t o : List ℕ) (g : Fit (bits w) s) (z : Fit 8 (replicate (16 * slots w) 0)) (e : Fit 8 t) (f : Fit 8 o) where
+-- ---- the check value and the encryptions that it is made of
+zero-first : (w : Width) → sixteen (replicate (16 * slots w) 0) 0 ≡ replicate 16 0
+zero-first w32 = refl
+zero-first w64 = refl
+
+-- what was lent fits
+pub record Lent (w : Width) (schedule three first twice second : List ℕ) : Type 0 where
+  pub words : Fit (bits w) schedule
+  pub three-bytes : Fit 8 three
+  pub first-bytes : Fit 8 first
+  pub twice-bytes : Fit 8 twice
+  pub second-bytes : Fit 8 second
+
+module _ (w : Width) {s t f d o : List ℕ} (lent : Lent w s t f d o) where
   checking : {r : ℕ} {x : List ℕ} → answers r x ≡ checkOutcome w s t → (roundsOf s ≡ 0 → ⊥) → length t ≡ 3 → Checks w s x
   checking {r} a p q = record {
     buffer = t;
-    can = record { fits = record { schedule-words = g; buffer-bytes = e }; good = record { scheduled = p; three = q } };
+    can = record { fits = record { schedule-words = lent .words; buffer-bytes = lent .three-bytes }; good = record { scheduled = p; three = q } };
     number = r;
     answer = a;
   }
 
-  pub check-stops : {r : ℕ} {x : List ℕ} → answers r x ≡ checkOutcome w s t → (r ≡ 0 → ⊥) → Agrees w s t o r x o
-  unfolding checking
-  check-stops a h = record { agrees = λ p q u. absurd (h (answers-0 (checkCall w) (checking a p q))) }
+  -- an encryption of a full batch under s
+  under : {i b : List ℕ} → Fit 8 i → Fit 8 b → {r : ℕ} {x : List ℕ} → answers r x ≡ encryptOutcome w s i b → (roundsOf s ≡ 0 → ⊥)
+      → length i ≡ 16 * slots w → length b ≡ 16 * slots w → Encrypts w s i x
+  under {i} {b} y v {r} a p q u = record {
+    buffer = b;
+    can = record {
+      fits = record { schedule-words = lent .words; input-bytes = y; buffer-bytes = v };
+      good = record { scheduled = p; full-input = q; full-output = u };
+    };
+    number = r;
+    answer = a;
+  }
 
-  pub check-agrees : {r₀ r : ℕ} {x y : List ℕ} → answers r₀ x ≡ checkOutcome w s t → answers r y ≡ encryptOutcome w s (replicate (16 * slots w) 0) o
-      → Agrees w s t o r x y
-  check-agrees {r₀} {r} {x} {y} a c = record { agrees = agrees }
+  once : {r : ℕ} {x : List ℕ} → answers r x ≡ encryptOutcome w s (replicate (16 * slots w) 0) f → (roundsOf s ≡ 0 → ⊥) → length f ≡ 16 * slots w
+      → Encrypts w s (replicate (16 * slots w) 0) x
+  once a p u = under (fit-replicate (16 * slots w) (lit< tt)) (lent .first-bytes) a p (length-replicate (16 * slots w) 0) u
+
+  pub check-stops : {r : ℕ} {x : List ℕ} → answers r x ≡ checkOutcome w s t → (r ≡ 0 → ⊥) → Agrees w s t f d o r x f o
+  unfolding checking
+  check-stops a n = record { agrees = λ p q u m. absurd (n (answers-0 (checkCall w) (checking a p q))) }
+
+  pub first-stops : {r : ℕ} {x y : List ℕ} → answers r y ≡ encryptOutcome w s (replicate (16 * slots w) 0) f → (r ≡ 0 → ⊥) → Agrees w s t f d o r x y o
+  unfolding once under
+  first-stops a n = record { agrees = λ p q u m. absurd (n (answers-0 (encryptCall w) (once a p (u .sealed)))) }
+
+  pub check-agrees : {r₀ r₁ r : ℕ} {x y v : List ℕ} → answers r₀ x ≡ checkOutcome w s t
+      → answers r₁ y ≡ encryptOutcome w s (replicate (16 * slots w) 0) f → answers r v ≡ encryptOutcome w s d o → Agrees w s t f d o r x y v
+  unfolding under
+  check-agrees {r = r} {x = x} {y = y} {v = v} a b c = record { agrees = agrees }
     where
-      agrees : (roundsOf s ≡ 0 → ⊥) → length t ≡ 3 → length o ≡ 16 * slots w → (r ≡ 0) × (x ≡ take 3 y)
-      agrees p q u =
-          let n : Encrypts w s (replicate (16 * slots w) 0) y = record {
-            buffer = o;
-            can = record {
-              fits = record { schedule-words = g; input-bytes = z; buffer-bytes = f };
-              good = record { scheduled = p; full-input = length-replicate (16 * slots w) 0; full-output = u };
-            };
-            number = r;
-            answer = c;
-          } in
-          (answers-0 (encryptCall w) n, check-is-slot-0 (checking a p q) n ∙ take-take 3 16 y (lit≤ tt))
+      agrees : (roundsOf s ≡ 0 → ⊥) → length t ≡ 3 → Batches w d f o → sixteen d 0 ≡ double (sixteen y 0) → (r ≡ 0) × (x ≡ take 3 v)
+      agrees p q u m =
+          let n : Encrypts w s d v = under (lent .twice-bytes) (lent .second-bytes) c p (u .input) (u .opened) in (
+            answers-0 (encryptCall w) n,
+            check-is-slot-0 (checking a p q) (once b p (u .sealed)) (zero-first w) n m ∙ take-take 3 16 v (lit≤ tt),
+          )

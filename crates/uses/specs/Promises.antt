@@ -5,6 +5,8 @@ use mathlib.Core.Bool.{true}
 use mathlib.Core.List.{List}
 use Prim.Native.Nat.{ℕ, _*_}
 use lib.ListN.{length, take}
+use Rattle.fips197.specs.Aes.{sixteen}
+use Rattle.sp800_38b.specs.Cmac.{double}
 use Rattle.lanes.specs.Layout.{Width, w64, slots}
 use Rattle.calls.specs.Calls.{keyWordsOf, zeroKey, Taken, scheduleWords, roundsOf}
 
@@ -27,9 +29,10 @@ pub record DoorBack (key input sealed opened : List ℕ) (r : ℕ) (left : List 
 pub record ScheduleBack (w : Width) (key schedule input sealed opened : List ℕ) (r : ℕ) (left : List ℕ) : Type 0 where
   pub back : Taken key → length schedule ≡ scheduleWords key → Batches w input sealed opened → Back r input left
 
--- the check value is the beginning of an encryption of zeros
-pub record Agrees (w : Width) (schedule three batch : List ℕ) (r : ℕ) (check sealed : List ℕ) : Type 0 where
-  pub agrees : (roundsOf schedule ≡ 0 → ⊥) → length three ≡ 3 → length batch ≡ 16 * slots w → (r ≡ 0) × (check ≡ take 3 sealed)
+-- the check value is the beginning of a second encryption, where this is of twice the first block that came of zeros
+pub record Agrees (w : Width) (schedule three first twice second : List ℕ) (r : ℕ) (check once again : List ℕ) : Type 0 where
+  pub agrees : (roundsOf schedule ≡ 0 → ⊥) → length three ≡ 3 → Batches w twice first second → sixteen twice 0 ≡ double (sixteen once 0)
+      → (r ≡ 0) × (check ≡ take 3 again)
 
 -- refused, and nothing is changed
 pub record Refused (before : List ℕ) (r : ℕ) (left : List ℕ) : Type 0 where

@@ -53,13 +53,25 @@ fn zeros() -> [u8; BATCH]
     [0u8; BATCH]
 }
 
-// The key check value, and the encryption of zeros that it begins.
-pub fn check_agrees(schedule: &[Word], three: &mut [u8], batch: &mut [u8]) -> u32
-    ensures { λ r. ⌜ Agrees w (now (schedule .entry)) (now (three .entry)) (now (batch .entry)) r (now (three .exit)) (now (batch .exit)) ⌝ }
+// The key check value, and the two encryptions that it is made of: of zeros, and of a batch that is to begin with twice what came of these.
+pub fn check_agrees(
+    schedule: &[Word],
+    three: &mut [u8],
+    first: &mut [u8],
+    twice: &[u8],
+    second: &mut [u8],
+) -> u32
+    ensures { λ r. ⌜
+        Agrees w (now (schedule .entry)) (now (three .entry)) (now (first .entry)) (now (twice .entry)) (now (second .entry))
+        r (now (three .exit)) (now (first .exit)) (now (second .exit)) ⌝ }
 {
     let number = check(schedule, three);
     if number != 0 {
         return number;
     }
-    encrypt(schedule, &zeros(), batch)
+    let made = encrypt(schedule, &zeros(), first);
+    if made != 0 {
+        return made;
+    }
+    encrypt(schedule, twice, second)
 }

@@ -9,13 +9,6 @@ ghost use Prim.Native.Nat.{_+_, _^_, _<_, _≤_};
 ghost use lib.ListN.{length};
 use libc::STDIN_FILENO;
 
-// The schedule's words for a key of so many bytes. Other lengths are the calls' to refuse.
-fn words_for(key: usize) -> usize
-    ensures { λ r. ⌜ r ≤ 120 ⌝ }
-{
-    if key == 16 { 88 } else { 120 }
-}
-
 // The first so many bytes of the input through the calls at so many bits.
 fn crypt(bits: usize, key: &[u8], decrypts: bool, input: &[u8], output: &mut [u8]) -> u32
     requires { ⌜ (bits ≤ length (now input)) × (bits ≤ length (now output)) ⌝ }

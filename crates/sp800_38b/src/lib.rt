@@ -1,0 +1,1 @@
+// Definitions and laws only: see specs/Cmac.antt and proofs/.
