@@ -6,8 +6,9 @@ key check values, the first three bytes of the CMAC (NIST SP 800-38B) of sixteen
 
 lowercase hex, 32 or 64, and 6 digits, a single space. Every value is by Python's `cryptography` (OpenSSL); none of our code is run.
 
-The keys: those of FIPS-197's Appendix A.1, A.3, C.1 and C.3, on which crates/appendices/proofs/Cmac.antt computes the whole tags; every key
-of one bit, at both lengths; and the SHA-256 of 0, 1, 2, .., whole and its first half. A key of zeros is refused, so there is none.
+The keys: those of FIPS-197's Appendix A.1, A.3, C.1 and C.3, on which crates/appendices/proofs/Cmac.antt computes the whole tags; C.3's with
+its last bit turned, which examples/check.c has; every key of one bit, at both lengths; and the SHA-256 of 0, 1, 2, .., whole and its first half.
+A key of zeros is refused, so there is none.
 """
 import hashlib, os
 from cryptography.hazmat.primitives.ciphers import Cipher, algorithms, modes
@@ -19,10 +20,11 @@ FIPS_197 = [
     "000102030405060708090a0b0c0d0e0f",
     "000102030405060708090a0b0c0d0e0f101112131415161718191a1b1c1d1e1f",
 ]
+TURNED = "000102030405060708090a0b0c0d0e0f101112131415161718191a1b1c1d1e1e"
 
 
 def keys():
-    yield from map(bytes.fromhex, FIPS_197)
+    yield from map(bytes.fromhex, FIPS_197 + [TURNED])
     for length in (16, 32):
         for bit in range(8 * length):
             yield (1 << bit).to_bytes(length, "big")
@@ -50,7 +52,7 @@ def main():
         file.writelines(f"{key.hex()} {tag(key)[:3].hex()}\n" for key in every)
     with open(os.path.join(folder, "stdout"), "w") as file:
         file.write(f"keys {len(every)}\nvalues that agreed, two of a key {2 * len(every)}\n")
-    for key in every[:len(FIPS_197)]:
+    for key in every[:len(FIPS_197) + 1]:
         print(f"{key.hex()} {tag(key).hex()}")
     print(f"ok check values: {len(every)} keys in crates/check_values_main/stdin, of which {sum(map(carries, every))} carry")
 

@@ -8,9 +8,7 @@ use borrow.Author.Tests.{eqb-true, eqb-false}
 use lib.Dec.{eqb}
 use lib.ListN.{length, take, drop-of-length-le}
 use lib.Seq.{sets, sets-eq}
-use Rattle.fips197.specs.Aes.{cipher}
 use Rattle.fips197.proofs.Blocks.{reads, reads-part}
-use Rattle.sp800_38b.specs.Cmac.{zeros, cmacOfBlock}
 use Rattle.lanes.specs.Layout.{Width, slots}
 use Rattle.lanes.specs.Sizes.{Size, keySize, scheduleSize}
 use Rattle.lanes.specs.Schedule.{reading, scheduleOf, cryptedBatch}
@@ -18,7 +16,7 @@ use Rattle.lanes.proofs.Sizes.{schedule-found}
 use Rattle.cipher.specs.Fixslice.{Scheduled}
 use Rattle.outcome.specs.Outcome.{answers}
 use Rattle.outcome.proofs.Laws.{is, is-not, differs, agrees, stop, pass}
-use Rattle.calls.specs.Calls.{keyWordsOf, zeroKey, Taken, scheduleWords, roundsOf, keysOf, expandOutcome, cryptOutcome, checkValue, checkOutcome}
+use Rattle.calls.specs.Calls.{keyWordsOf, zeroKey, Taken, scheduleWords, roundsOf, keysOf, expandOutcome, cryptOutcome, checkOf, checkValue, checkOutcome}
 use Rattle.calls.proofs.ZeroKey.{expand-6 as zero-key-6, key-passes}
 use Rattle.aes.specs.KeySize.{found, sizeFor}
 use Rattle.aes.specs.declared.KeySize.the-variants.{Of, NoKey}
@@ -121,10 +119,10 @@ module _ (s : List ℕ) {m : ℕ} (r : m ≡ scheduleSize (length s) .rounds) wh
     unfolding checkOutcome roundsOf
     check-4 p q = pass 2 o (is-not (λ e. p (r ∙ e))) (stop 4 o _ (differs q))
 
-    pub check-0 : (m ≡ 0 → ⊥) → length o ≡ 3 → {x : List ℕ} → x ≡ take 3 (cmacOfBlock (cipher (reading w m s 0)) (zeros 16)) → answers 0 x ≡ checkOutcome w s o
+    pub check-0 : (m ≡ 0 → ⊥) → length o ≡ 3 → {x : List ℕ} → x ≡ checkOf (reading w m s 0) → answers 0 x ≡ checkOutcome w s o
     unfolding checkOutcome checkValue roundsOf keysOf
     check-0 p q e = pass 2 o (is-not (λ e. p (r ∙ e))) (pass 4 o (agrees q)
-        (ap (answers 0) (e ∙ ap (λ (n : ℕ). take 3 (cmacOfBlock (cipher (reading w n s 0)) (zeros 16))) r)))
+        (ap (answers 0) (e ∙ ap (λ (n : ℕ). checkOf (reading w n s 0)) r)))
 
 -- three bytes stored into a buffer of three
 pub three-stored : (o b : List ℕ) → length o ≡ 3 → 3 ≤ length b → sets o 0 (reads 0 3 b) ≡ take 3 b

@@ -1,4 +1,5 @@
-// Below the public call, for programs over published vectors and the Rust's answers, of which some have a key of zeros. The library has none of this.
+// What the programs share over schedules: room for one; and, below the public call, the schedules of keys of zeros, which published vectors and the Rust's
+// answers have. The library has none of this.
 pub mod w32;
 pub mod w64;
 

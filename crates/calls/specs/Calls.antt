@@ -69,9 +69,13 @@ encryptOutcome = cryptOutcome cipher
 abbrev pub decryptOutcome : Width → List ℕ → List ℕ → List ℕ → Outcome (List ℕ)
 decryptOutcome = cryptOutcome invCipher
 
--- the key check value: the first three bytes of the CMAC, by slot 0's Cipher, of sixteen zero bytes; 2 for the schedule's length, 4 for the output's
+-- the key check value: the first three bytes of the CMAC, by Cipher under some round keys, of sixteen zero bytes
+abbrev pub checkOf : List (List ℕ) → List ℕ
+checkOf ks = take 3 (cmacOfBlock (cipher ks) (zeros 16))
+
+-- of a schedule, by those of slot 0; 2 for the schedule's length, 4 for the output's
 unfoldable pub checkValue : Width → List ℕ → List ℕ
-checkValue w schedule = take 3 (cmacOfBlock (cipher (keysIn w schedule 0)) (zeros 16))
+checkValue w schedule = checkOf (keysIn w schedule 0)
 
 unfoldable pub checkOutcome : Width → List ℕ → List ℕ → Outcome (List ℕ)
 checkOutcome w schedule output =

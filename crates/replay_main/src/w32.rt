@@ -9,11 +9,6 @@ type Word = u32;
 const DIGITS: usize = 8;
 
 // ---- the same at both widths
-// Room for the longest schedule. A call, so that a goal says its result and not 120 zeros.
-fn blank() -> [Word; 120] {
-    [0; 120]
-}
-
 fn call_by(
     schedule: &mut [Word],
     digits: &[u8],
@@ -30,7 +25,7 @@ fn call_by(
 }
 
 pub fn call(digits: &[u8], which: usize, input: &[u8], output: &mut [u8]) -> u32 {
-    let mut schedule = blank();
+    let mut schedule = any_key::blank();
     let n = digits.len() / DIGITS;
     if n > 120 {
         return 2;
@@ -48,8 +43,8 @@ fn expands_by(made: &mut [Word], right: &mut [Word], key: &[u8], digits: &[u8]) 
 
 // Whether a key has the schedule of these digits.
 pub fn expands(key: &[u8], digits: &[u8]) -> bool {
-    let mut made = blank();
-    let mut right = blank();
+    let mut made = any_key::blank();
+    let mut right = any_key::blank();
     let n = digits.len() / DIGITS;
     if n > 120 {
         return false;

@@ -48,7 +48,7 @@ xors-at zero (x ∷ xs) (y ∷ ys) h e = refl
 xors-at (suc n) (x ∷ xs) (y ∷ ys) h e = xors-at n xs ys (omega arith) (omega arith)
 
 -- ---- the shift
-pub shift-length : (xs : List ℕ) → length (shiftLeft xs) ≡ length xs
+shift-length : (xs : List ℕ) → length (shiftLeft xs) ≡ length xs
 unfolding shiftLeft
 shift-length [] = refl
 shift-length (x ∷ xs) = ap suc (shift-length xs)

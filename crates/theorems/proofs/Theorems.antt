@@ -13,7 +13,7 @@ use Rattle.fips197.specs.Bytes.{Fit, Block, Data}
 use Rattle.fips197.specs.Aes.{range, sixteen, cipher, invCipher, keyWords, keyExpansion, roundsFor}
 use Rattle.fips197.proofs.Ciphers.{Blocks}
 use Rattle.fips197.proofs.Keys.{expansion-blocks, expansion-one}
-use Rattle.sp800_38b.specs.Cmac.{zeros, double, cmacOfBlock}
+use Rattle.sp800_38b.specs.Cmac.{zeros, double}
 use Rattle.sp800_38b.proofs.Laws.{tag-of-zeros}
 use Rattle.lanes.specs.Layout.{Width, w64, bits, slots}
 use Rattle.lanes.specs.Sizes.{keySize, scheduleSize}
@@ -24,7 +24,7 @@ use Rattle.schedule.proofs.Reading.{schedule-length, schedule-fits, schedule-re
 use Rattle.cipher.proofs.Batches.{Way, forth, backwards, crypted-slot, crypted-data, crypted-undone, crypted-one}
 use Rattle.outcome.specs.Outcome.{answers}
 use Rattle.outcome.proofs.Laws.{settled}
-use Rattle.calls.specs.Calls.{keyWordsOf, zeroKey, Taken, scheduleWords, roundsOf, keysOf, keysIn, expandOutcome, checkValue, directed, doorOutcome}
+use Rattle.calls.specs.Calls.{keyWordsOf, zeroKey, Taken, scheduleWords, roundsOf, keysOf, keysIn, expandOutcome, checkOf, checkValue, directed, doorOutcome}
 use Rattle.calls.proofs.ZeroKey.{no-zeros, expand-6, door-6}
 use Rattle.theorems.proofs.Call.{Made, leaves, can-make}
 use Rattle.theorems.proofs.Calls.{expandCall, cryptCall}
@@ -259,10 +259,6 @@ module _ {w : Width} {key s i x : List ℕ} (e : Expands w key s) where
 -- ---- the key check value
 abbrev pub Checks : Width → List ℕ → List ℕ → Type 0
 Checks w s x = Made (checkCall w) s x
-
--- the first three bytes of the CMAC of sixteen zero bytes, by Cipher under these round keys
-abbrev pub checkOf : List (List ℕ) → List ℕ
-checkOf ks = take 3 (cmacOfBlock (cipher ks) (zeros 16))
 
 -- it is made of slot 0 of what encrypt answers: for zeros there, and then for twice what these came to
 pub check-is-slot-0 : {w : Width} {s x i y j z : List ℕ} → Checks w s x → Encrypts w s i y → sixteen i 0 ≡ zeros 16

@@ -14,7 +14,7 @@ use Rattle.fips197.specs.Aes.{invShiftRows, mixColumns, invMixColumns, addRound
 use Rattle.fips197.proofs.Blocks.{fit-nil, fit-test, fit-cons}
 use Rattle.fips197.proofs.Quick.{quickCipher, quickInvCipher, cipher-quick, invCipher-quick}
 use Rattle.appendices.proofs.Examples.{keyA1, roundKeysA1, expansion-A1, keyA3, roundKeysA3, expansion-A3}
-use Rattle.sp800_38b.specs.Cmac.{xors, shiftLeft, r128, double, subkey1, cmacOfBlock}
+use Rattle.sp800_38b.specs.Cmac.{zeros, xors, shiftLeft, r128, double, subkey1, cmacOfBlock}
 use Rattle.lanes.specs.Layout.{Width, w32, w64, bits, slots}
 use Rattle.lanes.specs.Sizes.{keySize}
 use Rattle.lanes.specs.Schedule.{scheduleOf, eachBlock}
@@ -27,7 +27,7 @@ use Rattle.theorems.proofs.Theorems.{Expands, Key, expand-rounds, expan
 
 -- ---- blocks and batches: x, and then zeros
 abbrev pub zero-block : List ℕ
-zero-block = replicate 16 0
+zero-block = zeros 16
 
 abbrev pub one-block : List ℕ
 one-block = 1 ∷ replicate 15 0

@@ -7,11 +7,6 @@ type Word = u64;
 // ---- the same at both widths
 use below::words_for;
 
-// Room for the longest schedule. A call, so that a goal says its result and not 120 zeros.
-fn blank() -> [Word; 120] {
-    [0; 120]
-}
-
 fn crypt_by(
     schedule: &mut [Word],
     key: &[u8],
@@ -30,14 +25,14 @@ fn crypt_by(
 }
 
 pub fn crypt(key: &[u8], decrypts: bool, input: &[u8], output: &mut [u8]) -> u32 {
-    let mut schedule = blank();
+    let mut schedule = any_key::blank();
     let n = words_for(key.len());
     crypt_by(&mut schedule[0..n], key, decrypts, input, output)
 }
 
 // What the public call answers for a key.
 pub fn expand(key: &[u8]) -> u32 {
-    let mut schedule = blank();
+    let mut schedule = any_key::blank();
     let n = words_for(key.len());
     public::expand(key, &mut schedule[0..n])
 }
