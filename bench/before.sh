@@ -1,6 +1,7 @@
 #!/bin/sh
 # Is a change slower? bench/before.sh COMMIT [RUNS] times the library of COMMIT and that of HEAD, and the packing of both by itself, in turns
-# in one process. Both are proved and built below target/bench first, which takes minutes once; docs/changes has what it printed.
+# in one process. Both are proved and built below target/bench first, which takes minutes once; docs/changes has what it printed. A library from
+# before request d takes one batch in a call: the rows of a long call then say that it refuses.
 top=$(cd "$(dirname "$0")/.." && pwd)
 . "$top/tools/common.sh"
 need "${CC%% *}" gcc

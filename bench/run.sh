@@ -1,7 +1,7 @@
 #!/bin/sh
 # Times ours against the Rust, with BearSSL and OpenSSL beside them where Debian's libbearssl-dev and libssl-dev can be had:
 # bench/run.sh [RUNS]. All are compiled for plain x86-64; only OpenSSL chooses by the processor. The ratio is the last
-# column: below 1 is faster than the Rust. The table is docs/SPEED.md's.
+# column: below 1 is faster than the Rust, batch by batch or all in one call. The table is docs/SPEED.md's.
 top=$(cd "$(dirname "$0")/.." && pwd)
 . "$top/tools/common.sh"
 . "$top/tools/fresh.sh"

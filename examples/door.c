@@ -1,6 +1,6 @@
 /*
- * The door: one batch of four blocks under a key that is used once. The key is expanded inside, at each call, and the
- * schedule is erased there; for many batches under one key see many.c.
+ * The door: blocks under a key that is used once, any number of them up to 65,536 bytes. The key is expanded inside, at
+ * each call, and the schedule is erased there; for many calls under one key see many.c.
  *
  * The second block stands twice, and comes out twice: a block cipher hides what a block is, not which blocks are equal.
  */
@@ -11,7 +11,7 @@
 
 int main(void)
 {
-    uint8_t key[32], plain[64], sealed[64], opened[64];
+    uint8_t key[32], plain[80], sealed[80], opened[80];
     uint32_t answer;
     int i, same;
 
@@ -21,13 +21,14 @@ int main(void)
     memcpy(plain + 16, "ten till twelve.", 16);
     memcpy(plain + 32, "one till two....", 16);
     memcpy(plain + 48, plain + 16, 16);
+    memcpy(plain + 64, "six till seven..", 16);
 
     answer = locker_aes(LOCKER_AES_ENCRYPT, key, sizeof key, plain, sizeof plain, sealed, sizeof sealed);
     if (answer != LOCKER_AES_OK) {
         fprintf(stderr, "not encrypted: answer %u\n", (unsigned)answer);
         return 1;
     }
-    for (i = 0; i < 64; i++) printf("%02x%s", sealed[i], i % 16 == 15 ? "\n" : " ");
+    for (i = 0; i < 80; i++) printf("%02x%s", sealed[i], i % 16 == 15 ? "\n" : " ");
     same = memcmp(sealed + 16, sealed + 48, 16) == 0;
     printf("blocks 1 and 3 are %s\n", same ? "equal, as their plaintexts are" : "different");
 

@@ -1,5 +1,6 @@
 #!/bin/sh
-# Compiles the examples, as C and as C++, runs them, and holds what they write to NAME.expected.
+# Compiles the examples, as C and as C++, runs them, and holds what they write to NAME.expected: make-expected.py makes two of these by OpenSSL, and
+# check.expected has values that tools/check_values.py makes so.
 top=$(cd "$(dirname "$0")/.." && pwd)
 . "$top/tools/common.sh"
 . "$top/tools/fresh.sh"

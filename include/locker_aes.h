@@ -1,5 +1,5 @@
 /*
- * locker_aes: AES-128 and AES-256 (FIPS-197) on full batches of blocks, fixsliced. For x86-64.
+ * locker_aes: AES-128 and AES-256 (FIPS-197) on blocks, up to 4,096 in a call, fixsliced. For x86-64.
  *
  * What a caller may rely on
  * -------------------------
@@ -45,10 +45,12 @@
  *
  * Which call for what
  * -------------------
- *  - One batch under a key: locker_aes(). It expands the key at each call, which doubles the time, and erases the
- *    schedule (examples/door.c).
- *  - Many batches under one key: locker_aes_expand64() once, locker_aes_encrypt64() or locker_aes_decrypt64() for each
- *    batch, and in the end erase the schedule and call locker_aes_clear_stack() (examples/many.c).
+ *  - Up to 65,536 bytes under a key: locker_aes(), once for all of them. It expands the key at each call, which takes
+ *    as long as a few blocks do, and erases the schedule (examples/door.c).
+ *  - More than that, or now and then a few blocks, under one key: locker_aes_expand64() once, locker_aes_encrypt64() or
+ *    locker_aes_decrypt64() for each piece, and in the end erase the schedule and call locker_aes_clear_stack()
+ *    (examples/many.c).
+ *  - As many blocks in a call as there are: one block takes as long as a full batch.
  *  - 64 or 32: 64. A batch of four blocks takes little longer than one of two in 32. The functions in 32 are for
  *    schedules of 32-bit words, which are laid out as the Rust crate aes lays them out on 32-bit machines.
  *  - To compare keys without showing them: locker_aes_check64() (examples/check.c).
@@ -68,9 +70,13 @@
  * -----
  * A schedule is an expanded key: LOCKER_AES_WORDS_128 words for a key of 16 bytes, LOCKER_AES_WORDS_256 words for one
  * of 32 bytes, at either width. A schedule belongs to one width. The functions whose names end in 32 take uint32_t
- * words and batches of two blocks, those in 64 uint64_t words and batches of four. Block j of a batch is its bytes 16j
- * to 16j + 15 and is worked on in slot j; no slot's output depends on another slot's block. A batch is always full: a
- * caller with fewer blocks fills up with any blocks and drops what comes out for them.
+ * words and work on full batches of two blocks, those in 64 uint64_t words and batches of four.
+ *
+ * Blocks are given end to end: LOCKER_AES_BLOCK to LOCKER_AES_LIMIT bytes, a multiple of LOCKER_AES_BLOCK. Block j is
+ * bytes 16j to 16j + 15, of the input and of the output alike, and is worked on in slot j modulo 2 (32) or 4 (64). What
+ * it becomes depends on nothing but itself and the round keys that the schedule has for its slot: on no other block,
+ * and not on how many there are. In a schedule made from a key every slot has the same round keys; then, and by the
+ * door, blocks may be cut into calls after any block, and otherwise after a multiple of the full batch.
  *
  * Any words may be given as a schedule. Under any schedule, encryption and decryption undo each other.
  */
@@ -86,15 +92,15 @@ extern "C" {
 
 /* The library's version (CHANGELOG.md), and the number in its shared library's name: raised when a program that was
    compiled before can no longer run with it. */
-#define LOCKER_AES_VERSION "0.4.0"
+#define LOCKER_AES_VERSION "0.5.0"
 #define LOCKER_AES_ABI     1
 
 /* The answers. */
 #define LOCKER_AES_OK                  0u /* done: none of the others applies */
 #define LOCKER_AES_BAD_KEY_LENGTH      1u /* the key has neither 16 nor 32 bytes */
 #define LOCKER_AES_BAD_SCHEDULE_LENGTH 2u /* neither 88 nor 120 words (expanding: not as many as this key asks) */
-#define LOCKER_AES_BAD_INPUT_LENGTH    3u /* the input is not one full batch */
-#define LOCKER_AES_BAD_OUTPUT_LENGTH   4u /* the output is not one full batch (key check value: not 3 bytes) */
+#define LOCKER_AES_BAD_INPUT_LENGTH    3u /* the input's length is below 16, above 65,536 or no multiple of 16 */
+#define LOCKER_AES_BAD_OUTPUT_LENGTH   4u /* the output is not as long as the input (key check value: not 3 bytes) */
 #define LOCKER_AES_BAD_DIRECTION       5u /* the direction is neither 0 nor 1 */
 #define LOCKER_AES_ZERO_KEY            6u /* the key has a right length, and every byte of it is zero; tested after 1 */
 
@@ -102,9 +108,12 @@ extern "C" {
 #define LOCKER_AES_ENCRYPT 0u
 #define LOCKER_AES_DECRYPT 1u
 
-/* Lengths: words of a schedule, bytes of a full batch at each width, bytes of a key check value. */
+/* Lengths: words of a schedule; bytes of a block, of the longest input, of a full batch at each width, and of a key
+   check value. */
 #define LOCKER_AES_WORDS_128 88u
 #define LOCKER_AES_WORDS_256 120u
+#define LOCKER_AES_BLOCK     16u
+#define LOCKER_AES_LIMIT     65536u
 #define LOCKER_AES_BATCH_32  32u
 #define LOCKER_AES_BATCH_64  64u
 #define LOCKER_AES_CHECK     3u
@@ -120,11 +129,12 @@ extern "C" {
 #endif
 
 /*
- * The door: makes the schedule of the key inside, with 64-bit words, and encrypts or decrypts one batch of four blocks.
- * The schedule is not handed out. Input and output have 64 bytes each.
+ * The door: makes the schedule of the key inside, with 64-bit words, and encrypts or decrypts every block under it. The
+ * schedule is not handed out.
  *
- * Answers 1 (key_len is neither 16 nor 32), 6 (the key is all zeros), 3 (input_len is not 64), 4 (output_len is not
- * 64), 5 (direction is neither LOCKER_AES_ENCRYPT nor LOCKER_AES_DECRYPT), or 0.
+ * Answers 1 (key_len is neither 16 nor 32), 6 (the key is all zeros), 3 (input_len is below 16, above 65,536 or no
+ * multiple of 16), 4 (output_len is not input_len), 5 (direction is neither LOCKER_AES_ENCRYPT nor LOCKER_AES_DECRYPT),
+ * or 0.
  *
  * Remains on the stack: nothing that depends on the key or the blocks; it erases what it wrote there.
  */
@@ -146,13 +156,16 @@ LOCKER_AES_MUST_USE
 uint32_t locker_aes_expand64(const uint8_t *key, size_t key_len, uint64_t *schedule, size_t schedule_len);
 
 /*
- * Encrypt a full batch under a schedule of the same width. Input and output have 32 bytes (32) or 64 bytes (64) each.
- * 88 words mean AES-128's 10 rounds and 120 words AES-256's 14.
+ * Encrypt blocks under a schedule of the same width. 88 words mean AES-128's 10 rounds and 120 words AES-256's 14.
  *
- * Answers 2 (schedule_len is neither 88 nor 120), 3 (input_len is not the batch's), 4 (output_len is not the batch's),
- * or 0.
+ * Before 0.5.0 these took one full batch and nothing else: 32 bytes (32) or 64 bytes (64).
+ *
+ * Answers 2 (schedule_len is neither 88 nor 120), 3 (input_len is below 16, above 65,536 or no multiple of 16), 4
+ * (output_len is not input_len), or 0.
  *
  * Remains on the stack: the blocks as they stood between two steps; with the output a round key follows from them.
+ * Where the input is no multiple of the full batch (32 or 64 bytes), also the blocks after the last full batch, as they
+ * came in and as they went out, and what the zeros became that filled up their batch.
  */
 LOCKER_AES_MUST_USE
 uint32_t locker_aes_encrypt32(const uint32_t *schedule, size_t schedule_len, const uint8_t *input, size_t input_len,
@@ -161,7 +174,7 @@ LOCKER_AES_MUST_USE
 uint32_t locker_aes_encrypt64(const uint64_t *schedule, size_t schedule_len, const uint8_t *input, size_t input_len,
                               uint8_t *output, size_t output_len);
 
-/* Decrypt a full batch: lengths and answers as for encryption, the same schedule, and the same remains. */
+/* Decrypt blocks: lengths and answers as for encryption, the same schedule, and the same remains. */
 LOCKER_AES_MUST_USE
 uint32_t locker_aes_decrypt32(const uint32_t *schedule, size_t schedule_len, const uint8_t *input, size_t input_len,
                               uint8_t *output, size_t output_len);

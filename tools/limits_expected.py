@@ -8,6 +8,7 @@ import itertools, os
 
 KEYS = [0, 1, 15, 16, 17, 24, 31, 32, 33]
 SCHEDULES = [0, 1, 87, 88, 89, 119, 120, 121]
+INPUTS = [0, 1, 15, 16, 17, 31, 32, 33, 47, 48, 63, 64, 65, 80, 65520, 65535, 65536, 65537, 65552]
 ZERO_KEYS = range(41)  # keys of zeros
 DIRECTIONS = [0, 1, 2, 0xffffffff]
 WORDS_FOR = {16: 88, 32: 120}  # the schedule's words for a key of so many bytes
@@ -18,8 +19,13 @@ def first(*refusals):
     return next((number for number, applies in refusals if applies), 0)
 
 
-def around(full):
-    return [0, 1, full - 1, full, full + 1]
+def lengths():
+    """(an input's length, an output's): a block less, as many bytes, a block more."""
+    return [(given, max(given + more, 0)) for given in INPUTS for more in (-16, 0, 16)]
+
+
+def whole(given):
+    return 16 <= given <= 65536 and given % 16 == 0
 
 
 def calls():
@@ -30,14 +36,14 @@ def calls():
         for key, words in itertools.product(ZERO_KEYS, SCHEDULES):
             yield f"expand{bits} zero key {key} schedule {words}", first((1, key not in WORDS_FOR), (6, True))
         for name in ("encrypt", "decrypt"):
-            for words, given, taken in itertools.product(SCHEDULES, around(bits), around(bits)):
+            for words, (given, taken) in itertools.product(SCHEDULES, lengths()):
                 yield f"{name}{bits} schedule {words} input {given} output {taken}", first(
-                    (2, words not in WORDS_FOR.values()), (3, given != bits), (4, taken != bits))
+                    (2, words not in WORDS_FOR.values()), (3, not whole(given)), (4, taken != given))
         for words, taken in itertools.product(SCHEDULES, range(5)):
             yield f"check_value{bits} schedule {words} output {taken}", first((2, words not in WORDS_FOR.values()), (4, taken != 3))
-    for direction, key, given, taken in itertools.product(DIRECTIONS, KEYS, around(64), around(64)):
+    for direction, key, (given, taken) in itertools.product(DIRECTIONS, KEYS, lengths()):
         yield f"locker_aes direction {direction} key {key} input {given} output {taken}", first(
-            (1, key not in WORDS_FOR), (3, given != 64), (4, taken != 64), (5, direction not in (0, 1)))
+            (1, key not in WORDS_FOR), (3, not whole(given)), (4, taken != given), (5, direction not in (0, 1)))
     for key, direction, given, taken in itertools.product(ZERO_KEYS, (0, 2), (63, 64), (64, 65)):
         yield f"locker_aes direction {direction} zero key {key} input {given} output {taken}", first((1, key not in WORDS_FOR), (6, True))
 

@@ -176,7 +176,8 @@ PROVES = {
     "sbox": "the circuits are the S-box XOR 63 and its inverse, in every slot",
     "mix_columns": "the four forms are MixColumns between row shifts, and their inverses",
     "schedule": "an expanded key reads as FIPS-197's round keys, in every slot, and nothing else does",
-    "cipher": "a batch under any schedule words is Cipher, or InvCipher, slot by slot",
+    "cipher": "full batches under any schedule words are Cipher, or InvCipher, slot by slot",
+    "blocks": "any blocks too: full batches, and the part of one that is left",
     "cmac": "doubling, subkeys and the tag of a block are SP 800-38B's, in slot 0",
     "aes": "the public calls: which number, and every byte afterwards, for all inputs",
     "theorems": "what the promises imply, and the wrong programs that cannot meet them",
@@ -187,8 +188,8 @@ NO_CODE = {"fips197", "lanes", "sp800_38b", "appendices", "outcome", "calls", "t
 # the row and the column of each, so that a line that passes a row passes it between boxes
 PLACES = {
     "fips197": (0, 2), "outcome": (0, 5), "lanes": (1, 2), "sp800_38b": (1, 4.5), "utils": (2, 2), "appendices": (2, 3.5), "calls": (2, 5), "word": (3, 0),
-    "shift_rows": (3, 1), "round_keys": (3, 2), "sbox": (3, 3), "mix_columns": (3, 4), "schedule": (4, 1), "cipher": (4, 2.5), "cmac": (5, 4),
-    "aes": (6, 2), "theorems": (6, 4.5), "host": (7, 2), "uses": (8, 3),
+    "shift_rows": (3, 1), "round_keys": (3, 2), "sbox": (3, 3), "mix_columns": (3, 4), "schedule": (4, 1), "cipher": (4, 2.5), "blocks": (5, 2),
+    "cmac": (6, 4), "aes": (7, 2), "theorems": (7, 4.5), "host": (8, 2), "uses": (9, 3),
 }
 
 

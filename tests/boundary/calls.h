@@ -25,7 +25,7 @@ static const struct call {
     {"locker_aes_check32", "so", CHECK_VALUE, &w32},
     {"locker_aes_check64", "so", CHECK_VALUE, &w64},
 };
-enum { CALLS = sizeof calls / sizeof calls[0], MOST_WRITTEN = 8 * 120 /* bytes, of a schedule */ };
+enum { CALLS = sizeof calls / sizeof calls[0], MOST_BLOCKS = 4096, MOST_WRITTEN = 16 * MOST_BLOCKS /* bytes */ };
 
 static inline uint32_t run(const struct call *c, uint32_t direction, void *const at[3], const size_t n[3])
 {
@@ -53,13 +53,13 @@ static inline size_t element(const struct call *c, int b)
     return c->takes[b] == 's' ? c->w->word : 1;
 }
 
-/* Buffer b's right length, in elements, at one size. */
-static inline size_t right_length(const struct call *c, int b, const struct size *z)
+/* Buffer b's right length, in elements, at one size and for so many blocks. */
+static inline size_t right_length(const struct call *c, int b, const struct size *z, size_t blocks)
 {
     switch (c->takes[b]) {
     case 'k': return z->key;
     case 's': return z->words;
-    default: return c->takes[b] == 'o' && c->gives == CHECK_VALUE ? 3 : 16 * c->w->slots;
+    default: return c->gives == CHECK_VALUE ? 3 : 16 * blocks;
     }
 }
 
@@ -67,7 +67,7 @@ static inline size_t right_length(const struct call *c, int b, const struct size
 static inline const struct size *size_for(const struct call *c, size_t n)
 {
     size_t i;
-    for (i = 0; i < SIZES; i++) if (right_length(c, 0, &sizes[i]) == n) return &sizes[i];
+    for (i = 0; i < SIZES; i++) if (right_length(c, 0, &sizes[i], 0) == n) return &sizes[i];
     return NULL;
 }
 
@@ -77,41 +77,47 @@ static inline int all_zero(const uint8_t *bytes, size_t n)
     return n == 0;
 }
 
-/* The number, by SCOPE's "Answers": a call takes its buffers in the order of their numbers, and a key, once its length
-   is right, must not be zeros. */
+/* The number, by SCOPE's "Answers": a call takes its buffers in the order of their numbers; a key, once its length is
+   right, must not be zeros; an input says how many blocks there are. */
 static inline uint32_t number(const struct call *c, uint32_t direction, void *const at[3], const size_t n[3])
 {
     static const char numbered[] = "-ksio"; /* 1 key, 2 schedule, 3 input, 4 output */
     const struct size *z = size_for(c, n[0]);
+    const size_t blocks = n[1] / 16;
     int b;
 
     for (b = 0; b <= last_of(c); b++) {
-        if (!z || n[b] != right_length(c, b, z)) return (uint32_t)(strchr(numbered, c->takes[b]) - numbered);
+        int taken = c->takes[b] != 'i' || (blocks >= 1 && blocks <= MOST_BLOCKS);
+        if (!z || !taken || n[b] != right_length(c, b, z, blocks))
+            return (uint32_t)(strchr(numbered, c->takes[b]) - numbered);
         if (c->takes[b] == 'k' && all_zero(at[b], n[b])) return 6;
     }
     return c->gives == AS_DIRECTED && direction > 1 ? 5 : 0;
 }
 
-/* What an answered call must have written, from the buffers that it read. */
+/* What an answered call must have written, from the buffers that it read: block j by the keys of slot j mod slots. */
 static inline void content(const struct call *c, uint32_t direction, void *const at[3], const size_t n[3], void *to)
 {
     const struct size *z = size_for(c, n[0]);
     int decrypts = c->gives == DECRYPTED || (c->gives == AS_DIRECTED && direction == 1);
     void (*does)(uint8_t *, const uint8_t *, size_t) = c->gives == CHECK_VALUE ? tag : decrypts ? inv_cipher : cipher;
-    uint8_t keys[MOST_KEYS];
-    size_t slot;
+    const size_t blocks = c->takes[1] == 'i' ? n[1] / 16 : 1;
+    uint8_t keys[4][MOST_KEYS]; /* each slot's */
+    size_t j;
 
-    if (c->takes[0] == 'k') key_expansion(at[0], n[0], keys);
+    for (j = 0; j < c->w->slots && j < blocks; j++) {
+        if (c->takes[0] == 'k') key_expansion(at[0], n[0], keys[j]);
+        else read_schedule(c->w, at[0], z->rounds, j, keys[j]);
+    }
     if (c->gives == SCHEDULE) {
-        make_schedule(c->w, keys, z->rounds, to);
+        make_schedule(c->w, keys[0], z->rounds, to);
         return;
     }
-    for (slot = 0; slot < (c->gives == CHECK_VALUE ? 1 : c->w->slots); slot++) {
+    for (j = 0; j < blocks; j++) {
         uint8_t block[16] = {0};
-        if (c->takes[0] == 's') read_schedule(c->w, at[0], z->rounds, slot, keys);
-        if (c->takes[1] == 'i') memcpy(block, (const uint8_t *)at[1] + 16 * slot, 16);
-        does(block, keys, z->rounds);
-        memcpy((uint8_t *)to + 16 * slot, block, c->gives == CHECK_VALUE ? 3 : 16);
+        if (c->takes[1] == 'i') memcpy(block, (const uint8_t *)at[1] + 16 * j, 16);
+        does(block, keys[j % c->w->slots], z->rounds);
+        memcpy((uint8_t *)to + 16 * j, block, c->gives == CHECK_VALUE ? 3 : 16);
     }
 }
 
@@ -122,6 +128,13 @@ static inline uint64_t random64(uint64_t *state)
     z = (z ^ z >> 30) * 0xbf58476d1ce4e5b9u;
     z = (z ^ z >> 27) * 0x94d049bb133111ebu;
     return z ^ z >> 31;
+}
+
+/* How many blocks: mostly a few, at times any number that is taken, and the most. */
+static inline size_t random_blocks(uint64_t *state)
+{
+    const uint64_t r = random64(state), kind = r % 1024;
+    return kind ? 1 + (size_t)((r >> 32) % (kind == 1 ? MOST_BLOCKS : kind < 64 ? 64 : 12)) : MOST_BLOCKS;
 }
 
 #endif

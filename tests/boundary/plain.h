@@ -71,12 +71,13 @@ static inline void shift_rows(uint8_t *s, size_t count) /* 5.1.2, so many times;
 
 static inline void mix_columns(uint8_t *s, uint8_t a, uint8_t b, uint8_t c, uint8_t d) /* 5.1.3 and 5.3.3 */
 {
-    const uint8_t *const factor[4] = {product[a], product[b], product[c], product[d]};
     uint8_t t[16];
-    size_t n, k;
+    size_t n, m;
     memcpy(t, s, 16);
-    for (n = 0; n < 16; n++)
-        for (s[n] = 0, k = 0; k < 4; k++) s[n] ^= factor[(k + 4 - n % 4) % 4][t[n / 4 * 4 + k]];
+    for (n = 0; n < 16; n += 4)
+        for (m = 0; m < 4; m++)
+            s[n + m] = product[a][t[n + m]] ^ product[b][t[n + (m + 1) % 4]] ^ product[c][t[n + (m + 2) % 4]] ^
+                       product[d][t[n + (m + 3) % 4]];
 }
 
 static inline void add(uint8_t *s, const uint8_t *bytes) /* 5.1.4 */

@@ -1,7 +1,8 @@
 #!/bin/sh
 # shellcheck disable=SC2016 # what the stubs expand is theirs
 # Plants faults in what the gate runs, and holds .ci/run to failing at each with the right words. Around the real .ci/run and judge-edits.sh stands
-# a repository of stubs: an rt that proves nothing, and runs that say ok. Without a fault the gate must pass there.
+# a repository of stubs: an rt that proves nothing, and runs that say ok. Without a fault the gate must pass there. Then plants faults in the library,
+# those rows of docs/FAULTS.md that say so: tests/faults/gate.sh [stubs], with `stubs` without these.
 top=$(cd "$(dirname "$0")/../.." && pwd)
 . "$top/tools/common.sh"
 unset GATE_ALLOW_SKIP LOCKER_AES_LIB
@@ -103,4 +104,5 @@ echo 'refused: w64::f' >"$tree/crates/one/must-fail/edit.edit"
 fails 'rt staticlib host failed' STUB_LIB=1
 rm "$tree/tests/oracle/run.sh"
 fails 'is listed, and there is no such script' GATE_ALLOW_SKIP=1
+[ "${1:-}" = stubs ] || LOCKER_AES_LIB=$lib tests/faults/run.sh '(in the gate)'
 echo "ok gate: $count tries, each ended as it must"

@@ -1,16 +1,19 @@
 #!/bin/sh
 # Plants each fault of docs/FAULTS.md in a copy of the library and holds the run that is named there to catching it, with the words that are named
-# there; the copy without a fault must pass every run. Then plants faults in what the gate runs (gate.sh). Some minutes; not part of the gate.
-# tests/faults/run.sh [WORDS]: only the rows with these words.
+# there; the copy without a fault must pass every run. Then plants faults in what the gate runs (gate.sh). Some minutes; the gate tries some rows.
+# tests/faults/run.sh [WORDS]: only the rows with these words, without the faults in the gate.
 top=$(cd "$(dirname "$0")/../.." && pwd)
 . "$top/tools/common.sh"
 need_library
 need objcopy binutils
 table=docs/FAULTS.md
 
-# rows: CALL FAULT RUN WORDS.., one fault a line.
-sed -n 's/^| \([a-z0-9]*\) | \([a-z0-9_]*\) | .* | \([a-z]*\) | \([^|]*\) |$/\1 \2 \3 \4/p' $table | grep -v '^call fault ' >"$out/all"
-grep -F -- "$*" "$out/all" >"$out/rows" || fail "no row has the words: $*"
+# rows WORDS: CALL FAULT RUN WORDS.., one fault a line, of the rows with these words.
+rows() {
+    grep -F -- "$*" $table | sed -n 's/^| \([a-z0-9]*\) | \([a-z0-9_]*\) | .* | \([a-z]*\) | \([^|]*\) |$/\1 \2 \3 \4/p' | grep -v '^call fault '
+}
+rows '' >"$out/all"
+rows "$*" >"$out/rows" || fail "no row has the words: $*"
 
 # The table and the shim have the same faults.
 sed -n '/^enum fault {/,/^};/p' tests/faults/shim.c | sed 's,/\*.*\*/,,; 1d; $d' | tr -d ' ' | tr ',' '\n' | grep -vx -e none -e '' | sort >"$out/in-shim"
@@ -60,5 +63,5 @@ while read -r call fault run words; do
     missed=$((missed + 1))
 done <"$out/rows"
 [ $missed -eq 0 ] || fail "$missed of $count planted faults were missed"
-[ $# -gt 0 ] || tests/faults/gate.sh
+[ $# -gt 0 ] || tests/faults/gate.sh stubs
 echo "ok faults: $count planted, all caught"

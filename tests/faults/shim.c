@@ -13,10 +13,13 @@ enum fault {
     /* what is written */
     other_direction, blocks_swapped, slots_swapped, end_unwritten, added_to_output, wrong_for_one_bit,
     wrong_for_one_slot, half_key, one_bit, slot_empty, last_key_shifted, nots_on_key_0,
+    /* many blocks; with the last three each is worked on by the real call, in another slot */
+    first_batch_only, part_dropped, part_as_batch, slot_0_for_all, slots_divided, part_at_end,
     /* the check value, made by the real encryption: encrypted zeros, the doubling, the subkey */
     old_value, no_87, bytes_turned, second_subkey, branches_on_carry,
     /* the number */
     output_tested_first, direction_tested_first, takes_one_more, cut_to_8, cut_to_16, cut_to_32, direction_cut,
+    limit_one_less, limit_one_more, refuses_48, takes_none, output_untested,
     /* the test for a key of zeros, which ends at the first byte that is none in all of these */
     zeros_taken, zeros_tested_last, zeros_of_any_length, half_of_zeros, last_byte_skipped, exits_early,
     /* the buffers */
@@ -25,7 +28,8 @@ enum fault {
     /* state */
     static_data, thread_data, allocates, system_call, exports_more,
     /* secrets */
-    branches, branches_on_block, branches_when_refused, looks_up, looks_up_by_block, leaves_schedule, large_stack,
+    branches, branches_on_block, branches_on_part, branches_when_refused, looks_up, looks_up_by_block, leaves_schedule,
+    leaves_part, large_stack,
 };
 
 /* The real functions. */
@@ -103,6 +107,25 @@ static void check_again(enum call call, void *schedule, size_t words, uint8_t *o
     memcpy(out, block, 3);
 }
 
+/* Every block again, in a batch of its own and in the slot that the fault says. */
+static void block_by_block(enum call call, size_t slots, void *const at[3], const size_t n[3])
+{
+    const size_t blocks = n[1] / 16, full = blocks / slots * slots, lengths[3] = {n[0], 16 * slots, 16 * slots};
+    size_t j;
+
+    for (j = 0; j < blocks; j++) {
+        uint8_t one[64] = {0}, done[64];
+        void *const batch[3] = {at[0], one, done};
+        size_t slot = j % slots;
+        if (FAULT == slot_0_for_all) slot = 0;
+        if (FAULT == slots_divided) slot = j / slots % slots;
+        if (FAULT == part_at_end && j >= full) slot += slots - blocks % slots;
+        memcpy(one + 16 * slot, (uint8_t *)at[1] + 16 * j, 16);
+        if (real(call, 0, batch, lengths)) return;
+        memcpy((uint8_t *)at[2] + 16 * j, done + 16 * slot, 16);
+    }
+}
+
 static inline uint32_t shim(enum call call, uint32_t direction, const void *a, size_t an, const void *b, size_t bn,
                             void *c, size_t cn)
 {
@@ -112,9 +135,10 @@ static inline uint32_t shim(enum call call, uint32_t direction, const void *a, s
     const size_t word = call == expand32 || call == encrypt32 || call == decrypt32 || call == check32 ? 4 : 8;
     const int expands = call == expand32 || call == expand64, checks = call == check32 || call == check64;
     const int last = expands || checks ? 1 : 2, takes_schedule = call != door && !expands;
-    const size_t right = expands ? (an == 16 ? 88 : 120) : checks ? 3 : 8 * word;
+    const size_t right = expands ? (an == 16 ? 88 : 120) : checks ? 3 : bn, most = 65536;
     const size_t size0 = takes_schedule ? word * an : an, size = expands ? word * n[last] : n[last];
-    uint8_t *first = at[0], *out = at[last], was[960], words[960], others = 0, end[16], room[8192];
+    const size_t batch = 8 * word, part = last == 2 && bn % 16 == 0 ? bn % batch : 0; /* bytes of it at the end */
+    uint8_t *first = at[0], *out = at[last], was[65536], words[960], others = 0, end[64], room[8192];
     uint64_t schedule[120];
     uint32_t answer;
 
@@ -148,6 +172,11 @@ static inline uint32_t shim(enum call call, uint32_t direction, const void *a, s
         if (HAS(cut_to_32)) n[i] = (uint32_t)n[i];
     }
     if (HAS(direction_cut)) direction = (uint8_t)direction;
+    if ((HAS(limit_one_less) && bn == most) || (HAS(refuses_48) && bn == 48)) n[1] = 0;
+    if (HAS(limit_one_more) && bn == most + 16 && cn == bn) n[1] = n[2] = most;
+    if (HAS(takes_none) && !bn && !cn) at[1] = memset(end, 0, 16), at[2] = was, n[1] = n[2] = 16;
+    if (HAS(output_untested)) n[2] = bn;
+    if (HAS(part_as_batch) && part && cn == bn) n[1] = n[2] = bn - part + batch;
     if (HAS(reads_past)) KEEP(first[size0]);
     if (HAS(reads_before)) KEEP(first[-1]);
     if (HAS(reads_nothing)) KEEP(first[0]);
@@ -164,9 +193,14 @@ static inline uint32_t shim(enum call call, uint32_t direction, const void *a, s
     }
     if (HAS(system_call)) __asm__ volatile("syscall" : "=a"(i) : "a"(39) : "rcx", "r11", "memory");
     if (HAS(branches) && size0 && first[0] == 1) KEEP(first);
-    if (HAS(branches_on_block) && bn && ((const uint8_t *)b)[bn - 1] == 1) KEEP(first);
+    if ((HAS(branches_on_block) && bn) || (HAS(branches_on_part) && part))
+        if (((const uint8_t *)b)[bn - 1] == 1) KEEP(first);
+    if (HAS(leaves_part) && part) {
+        memcpy(end, (const uint8_t *)b + bn - part, part);
+        KEEP(end);
+    }
     if (HAS(large_stack)) KEEP(room);
-    if ((HAS(end_unwritten) || HAS(added_to_output)) && size <= sizeof was) memcpy(was, out, size);
+    if ((HAS(end_unwritten) || HAS(added_to_output) || HAS(part_dropped)) && size <= sizeof was) memcpy(was, out, size);
 
     answer = real(to, direction, at, n);
 
@@ -175,7 +209,7 @@ static inline uint32_t shim(enum call call, uint32_t direction, const void *a, s
     if (HAS(branches_when_refused) && answer && size0 && first[0] == 1) KEEP(first);
     if (answer) {
         if (HAS(refusal_writes) && size) out[0] ^= 1;
-        if (HAS(refusal_writes_at_one_length) && n[last] == right - 1) out[0] ^= 1;
+        if (HAS(refusal_writes_at_one_length) && n[last] == batch - 1) out[0] ^= 1;
         if (HAS(refusal_writes_and_back) && size) *(volatile uint8_t *)out ^= 1, *(volatile uint8_t *)out ^= 1;
         return answer;
     }
@@ -185,7 +219,15 @@ static inline uint32_t shim(enum call call, uint32_t direction, const void *a, s
         out[0] ^= hidden[HAS(looks_up) ? first[0] : *(const uint8_t *)b];
     }
     if (CALL == call && FAULT >= old_value && FAULT <= branches_on_carry) check_again(call, at[0], n[0], out);
-    if (HAS(blocks_swapped)) {
+    if (HAS(first_batch_only) && size > batch) memcpy(out + batch, (const uint8_t *)b + batch, size - batch);
+    if (HAS(part_dropped)) memcpy(out + size - part, was + size - part, part);
+    if (CALL == call && FAULT >= slot_0_for_all && FAULT <= part_at_end) block_by_block(call, word / 2, at, n);
+    if (HAS(limit_one_more) && bn == most + 16) {
+        void *const rest[3] = {at[0], (uint8_t *)at[1] + most, out + most};
+        const size_t lengths[3] = {n[0], 16, 16};
+        answer = real(to, direction, rest, lengths);
+    }
+    if (HAS(blocks_swapped) && size >= 32) {
         memcpy(end, out + size - 16, 16);
         memcpy(out + size - 16, out + size - 32, 16);
         memcpy(out + size - 32, end, 16);

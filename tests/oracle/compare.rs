@@ -2,8 +2,9 @@
 //!
 //! Every call is judged whole: its number, every element of the buffer that it may write, its inputs, and guard
 //! elements around each buffer. The refusals are not the Rust's; they are stated here from docs/SCOPE.md's table. The
-//! Rust takes a key of zeros: ours must refuse it, and the other calls take the Rust's schedule of it. (The words of
-//! that schedule are compared by crates/replay_main, below the public call.)
+//! Rust takes one full batch: many blocks are given to it batch by batch. It takes a key of zeros: ours must refuse it,
+//! and the other calls take the Rust's schedule of it. (The words of that schedule are compared by crates/replay_main,
+//! below the public call.)
 use rust_aes::{Element, FIPS_KEYS, Random, SIZES, Width, check_value, hex, words};
 
 type Expand<W> = unsafe extern "C" fn(*const u8, usize, *mut W, usize) -> u32;
@@ -66,14 +67,31 @@ fn bad_schedule<W>(schedule: &[W]) -> bool {
     SIZES.iter().all(|size| size.1 != schedule.len())
 }
 
+/// The most bytes that one call takes.
+const MOST: usize = 65_536;
+
+fn bad_input(input: &[u8]) -> bool {
+    input.is_empty() || input.len() > MOST || input.len() % 16 != 0
+}
+
+/// The Rust batch by batch. Zero blocks fill up the last one, and what becomes of them is cut off.
+fn by_batches<W: Width>(direction: u32, schedule: &[W], input: &[u8], output: &mut [u8]) {
+    for (from, to) in input.chunks(W::BATCH).zip(output.chunks_mut(W::BATCH)) {
+        let (mut batch, mut done) = ([0; u64::BATCH], [0; u64::BATCH]); // room for either width's
+        batch[..from.len()].copy_from_slice(from);
+        W::crypt(direction, schedule, &batch[..W::BATCH], &mut done[..W::BATCH]);
+        to.copy_from_slice(&done[..to.len()]);
+    }
+}
+
 fn expanded<W: Width>(key: &[u8], schedule: &[W]) -> Outcome<W> {
     let refusals = [(1, bad_key(key)), (6, zero_key(key)), (2, schedule.len() != words(key.len()))];
     outcome(&refusals, schedule, |to| W::expand(key, to))
 }
 
 fn crypted<W: Width>(direction: u32, schedule: &[W], input: &[u8], output: &[u8]) -> Outcome<u8> {
-    let refusals = [(2, bad_schedule(schedule)), (3, input.len() != W::BATCH), (4, output.len() != W::BATCH)];
-    outcome(&refusals, output, |to| W::crypt(direction, schedule, input, to))
+    let refusals = [(2, bad_schedule(schedule)), (3, bad_input(input)), (4, output.len() != input.len())];
+    outcome(&refusals, output, |to| by_batches(direction, schedule, input, to))
 }
 
 fn checked<W: Width>(schedule: &[W], output: &[u8]) -> Outcome<u8> {
@@ -82,18 +100,18 @@ fn checked<W: Width>(schedule: &[W], output: &[u8]) -> Outcome<u8> {
 }
 
 fn by_door(direction: u32, key: &[u8], input: &[u8], output: &[u8]) -> Outcome<u8> {
-    let refusals =
-        [(1, bad_key(key)), (6, zero_key(key)), (3, input.len() != 64), (4, output.len() != 64), (5, direction > 1)];
+    let lengths = [(3, bad_input(input)), (4, output.len() != input.len())];
+    let refusals = [(1, bad_key(key)), (6, zero_key(key)), lengths[0], lengths[1], (5, direction > 1)];
     outcome(&refusals, output, |to| {
         let mut schedule = vec![0u64; words(key.len())];
         u64::expand(key, &mut schedule);
-        u64::crypt(direction, &schedule, input, to);
+        by_batches(direction, &schedule, input, to);
     })
 }
 
 /// A buffer between guard elements.
 struct Lent<T>(Vec<T>);
-const GUARD: usize = 16;
+const GUARD: usize = 64; // room for a whole batch, where only a part of one was to be written
 
 impl<T: Element> Lent<T> {
     fn guard(i: usize) -> T {
@@ -113,17 +131,27 @@ impl<T: Element> Lent<T> {
     }
 }
 
-/// Lengths on both sides of every limit of docs/SCOPE.md.
-const LENGTHS: [usize; 25] =
-    [0, 1, 2, 3, 4, 8, 15, 16, 17, 24, 31, 32, 33, 48, 63, 64, 65, 87, 88, 89, 104, 119, 120, 121, 128];
+/// Lengths on both sides of every limit of docs/SCOPE.md; around the most bytes apart, for calls of these take long.
+const LENGTHS: [usize; 26] =
+    [0, 1, 2, 3, 4, 8, 15, 16, 17, 24, 31, 32, 33, 47, 48, 63, 64, 65, 87, 88, 89, 104, 119, 120, 121, 128];
+const MOST_LENGTHS: [usize; 7] = [MOST - 17, MOST - 16, MOST - 1, MOST, MOST + 1, MOST + 16, MOST + 17];
 
-struct Run {
-    random: Random,
+/// What was compared: of calls that took blocks, those with a part of a batch, and those of the most bytes.
+#[derive(Default)]
+struct Compared {
     batches: u64,
+    calls: u64,
+    parts: u64,
+    most: u64,
     schedules: u64,
     checks: u64,
     refusals: u64,
     zeros: u64,
+}
+
+struct Run {
+    random: Random,
+    compared: Compared,
 }
 
 impl Run {
@@ -133,9 +161,45 @@ impl Run {
         some
     }
 
+    fn below(&mut self, n: usize) -> usize {
+        (self.random.next() % n as u64) as usize
+    }
+
     fn odd<T: Element>(&mut self) -> Vec<T> {
-        let n = LENGTHS[(self.random.next() % LENGTHS.len() as u64) as usize];
+        let n = LENGTHS[self.below(LENGTHS.len())];
         self.some(n)
+    }
+
+    /// Bytes that are taken: mostly a few blocks, at times any number of them, and the most.
+    fn length(&mut self) -> usize {
+        match self.below(4096) {
+            0 => MOST,
+            1 => 16 * (1 + self.below(MOST / 16)),
+            2..64 => 16 * (1 + self.below(64)),
+            _ => 16 * (1 + self.below(8)),
+        }
+    }
+
+    /// An input and an output: right ones.
+    fn blocks(&mut self) -> (Vec<u8>, Vec<u8>) {
+        let n = self.length();
+        (self.some(n), self.some(n))
+    }
+
+    /// The same, right or not: each of any length; or the output's beside the input's; or both around the most.
+    fn odd_blocks(&mut self) -> (Vec<u8>, Vec<u8>) {
+        match self.below(2048) {
+            0 => {
+                let [n, m] = [0; 2].map(|_| MOST_LENGTHS[self.below(MOST_LENGTHS.len())]);
+                (self.some(n), self.some(m))
+            }
+            1..512 => {
+                let n = self.length();
+                let beside = [n - 16, n - 1, n + 1, n + 16][self.below(4)];
+                (self.some(n), self.some(beside))
+            }
+            _ => (self.odd(), self.odd()),
+        }
     }
 
     /// Holds an answer, the written buffer and whether the inputs were kept to what was expected; `said` names the
@@ -147,8 +211,8 @@ impl Run {
         said: impl FnOnce() -> (String, Vec<String>),
     ) {
         let (answer, lent, kept) = got;
-        self.refusals += u64::from(expected.0 != 0);
-        self.zeros += u64::from(expected.0 == 6);
+        self.compared.refusals += u64::from(expected.0 != 0);
+        self.compared.zeros += u64::from(expected.0 == 6);
         if answer == expected.0 && kept && lent.holds(&expected.1) {
             return;
         }
@@ -157,17 +221,32 @@ impl Run {
         given.iter().for_each(|i| println!("  given    {i}"));
         println!("  expected {} {}", expected.0, hex(&expected.1));
         println!("  answered {answer} {}", hex(&lent.0[GUARD..GUARD + lent.len()]));
+        if let Some(at) = expected.1.iter().zip(&lent.0[GUARD..]).position(|(right, is)| right != is) {
+            println!("  which differ first at element {at} of {}", lent.len());
+        }
         let guards = Lent::<T>::new(&[]).0;
         let all_guards = lent.0.starts_with(&guards[..GUARD]) && lent.0.ends_with(&guards[GUARD..]);
         println!("  inputs unchanged: {kept}; guards of the written buffer unchanged: {all_guards}");
         std::process::exit(1);
     }
 
+    /// Of an answered call, its blocks in batches of so many bytes.
+    fn count(&mut self, answer: u32, input: &[u8], batch: usize) {
+        if answer == 0 {
+            self.compared.batches += input.len().div_ceil(batch) as u64;
+            self.compared.calls += 1;
+            self.compared.parts += u64::from(input.len() % batch != 0);
+            self.compared.most += u64::from(input.len() == MOST);
+        }
+    }
+
     fn expand<W: Ours>(&mut self, key: &[u8], schedule: &[W]) {
         let (mut k, mut s) = (Lent::new(key), Lent::new(schedule));
         let answer = unsafe { W::EXPAND(k.at(), k.len(), s.at(), s.len()) };
         let said = || (format!("expand, {} bits", 8 * size_of::<W>()), vec![hex(key)]);
-        self.judge((answer, &s, k.holds(key)), expanded(key, schedule), said);
+        let expected = expanded(key, schedule);
+        self.compared.schedules += u64::from(expected.0 == 0);
+        self.judge((answer, &s, k.holds(key)), expected, said);
     }
 
     fn crypt<W: Ours>(&mut self, direction: u32, schedule: &[W], input: &[u8], output: &[u8]) {
@@ -176,14 +255,18 @@ impl Run {
         let got = (answer, &o, s.holds(schedule) && i.holds(input));
         let call = || format!("crypt in direction {direction}, {} bits", 8 * size_of::<W>());
         let said = || (call(), vec![hex(schedule), hex(input)]);
-        self.judge(got, crypted(direction, schedule, input, output), said);
+        let expected = crypted(direction, schedule, input, output);
+        self.count(expected.0, input, W::BATCH);
+        self.judge(got, expected, said);
     }
 
     fn check<W: Ours>(&mut self, schedule: &[W], output: &[u8]) {
         let (mut s, mut o) = (Lent::new(schedule), Lent::new(output));
         let answer = unsafe { W::CHECK(s.at(), s.len(), o.at(), o.len()) };
         let said = || (format!("check, {} bits", 8 * size_of::<W>()), vec![hex(schedule)]);
-        self.judge((answer, &o, s.holds(schedule)), checked(schedule, output), said);
+        let expected = checked(schedule, output);
+        self.compared.checks += u64::from(expected.0 == 0);
+        self.judge((answer, &o, s.holds(schedule)), expected, said);
     }
 
     fn door(&mut self, direction: u32, key: &[u8], input: &[u8], output: &[u8]) {
@@ -191,7 +274,9 @@ impl Run {
         let answer = unsafe { locker_aes(direction, k.at(), k.len(), i.at(), i.len(), o.at(), o.len()) };
         let got = (answer, &o, k.holds(key) && i.holds(input));
         let said = || (format!("door in direction {direction}"), vec![hex(key), hex(input)]);
-        self.judge(got, by_door(direction, key, input, output), said);
+        let expected = by_door(direction, key, input, output);
+        self.count(expected.0, input, u64::BATCH);
+        self.judge(got, expected, said);
     }
 
     /// One key and one schedule at one width: good calls, and then calls with any of the lengths.
@@ -202,21 +287,19 @@ impl Run {
         W::expand(key, &mut made);
         for schedule in [&made[..], any] {
             for direction in 0..2 {
-                let (input, output) = (self.some::<u8>(W::BATCH), self.some::<u8>(W::BATCH));
+                let (input, output) = self.blocks();
                 self.crypt(direction, schedule, &input, &output);
             }
             let output = self.some::<u8>(3);
             self.check(schedule, &output);
         }
-        (self.batches, self.checks) = (self.batches + 4, self.checks + 2);
-        self.schedules += u64::from(!zero_key(key));
 
         let (odd_key, odd_schedule) = (self.odd::<u8>(), self.odd::<W>());
         self.expand(&odd_key, &odd_schedule);
         self.expand(key, &odd_schedule);
         for schedule in [any, &odd_schedule] {
-            let (input, output) = (self.odd::<u8>(), self.odd::<u8>());
-            let direction = (self.random.next() % 2) as u32;
+            let (input, output) = self.odd_blocks();
+            let direction = self.below(2) as u32;
             self.crypt(direction, schedule, &input, &output);
             self.check(schedule, &output);
         }
@@ -225,27 +308,27 @@ impl Run {
     /// Both directions and the check value under one schedule.
     fn under<W: Ours>(&mut self, schedule: &[W], input: &[u8]) {
         for direction in 0..2 {
-            let output = self.some::<u8>(W::BATCH);
+            let output = self.some::<u8>(input.len());
             self.crypt(direction, schedule, input, &output);
         }
         let output = self.some::<u8>(3);
         self.check(schedule, &output);
-        (self.batches, self.checks) = (self.batches + 2, self.checks + 1);
     }
 
-    /// Schedules of n words and batches: every bit set alone and clear alone, and every slot filled alone.
+    /// Schedules of n words, and inputs of a batch and a block: every bit set alone and clear alone, and every slot
+    /// filled alone.
     fn patterns<W: Ours>(&mut self, n: usize) {
-        let (bits, slots) = (8 * size_of::<W>(), W::BATCH / 16);
+        let (bits, slots, bytes) = (8 * size_of::<W>(), W::BATCH / 16, W::BATCH + 16);
         for all in [0, u64::MAX] {
             for bit in 0..n * bits {
                 let mut schedule = vec![W::low(all); n];
                 schedule[bit / bits] = W::low(all ^ 1 << (bit % bits));
-                let input = self.some(W::BATCH);
+                let input = self.some(bytes);
                 self.under(&schedule, &input);
             }
             let schedule = self.some::<W>(n);
-            for bit in 0..8 * W::BATCH {
-                let mut input = vec![all as u8; W::BATCH];
+            for bit in 0..8 * bytes {
+                let mut input = vec![all as u8; bytes];
                 input[bit / 8] ^= 1 << (bit % 8);
                 self.under(&schedule, &input);
             }
@@ -253,7 +336,7 @@ impl Run {
                 let others = (0..64).filter(|bit| bit % slots != slot).fold(0, |mask, bit| mask | 1u64 << bit);
                 let word = |random: &mut Random| W::low(random.next() & !others | all & others);
                 let schedule: Vec<W> = (0..n).map(|_| word(&mut self.random)).collect();
-                let input = self.some(W::BATCH);
+                let input = self.some(bytes);
                 self.under(&schedule, &input);
             }
         }
@@ -264,14 +347,13 @@ impl Run {
         self.width(key, any32);
         self.width(key, any64);
         for direction in [0, 1, 2, self.random.next() as u32] {
-            let (input, output) = (self.some::<u8>(64), self.some::<u8>(64));
+            let (input, output) = self.blocks();
             self.door(direction, key, &input, &output);
-            let (odd_key, odd_input, odd_output) = (self.odd::<u8>(), self.odd::<u8>(), self.odd::<u8>());
+            let (odd_key, (odd_input, odd_output)) = (self.odd::<u8>(), self.odd_blocks());
             self.door(direction, &odd_key, &input, &output);
             self.door(direction, key, &odd_input, &odd_output);
             self.door(direction, &odd_key, &odd_input, &odd_output);
         }
-        self.batches += if zero_key(key) { 0 } else { 2 };
     }
 }
 
@@ -292,7 +374,7 @@ fn main() {
     println!(
         "oracle: seed {seed}, at least {count} batches under random keys (again: tests/oracle/run.sh {count} {seed})"
     );
-    let mut run = Run { random: Random(seed), batches: 0, schedules: 0, checks: 0, refusals: 0, zeros: 0 };
+    let mut run = Run { random: Random(seed), compared: Compared::default() };
     for (len, n) in SIZES {
         for (i, key) in structured(len).iter().enumerate() {
             let same = [0, u64::MAX, 0x6363_6363_6363_6363][i % 3]; // schedules of equal words
@@ -301,18 +383,20 @@ fn main() {
         run.patterns::<u32>(n);
         run.patterns::<u64>(n);
     }
-    let least = run.batches + count;
-    while run.batches < least {
+    let least = run.compared.batches + count;
+    while run.compared.batches < least {
         for (len, n) in SIZES {
             let key = run.some::<u8>(len);
             let (any32, any64) = (run.some(n), run.some(n));
             run.key(&key, &any32, &any64);
         }
     }
-    assert!(run.zeros > 0, "no key of zeros was tried");
+    let all = run.compared;
+    assert!(all.zeros > 0, "no key of zeros was tried");
+    assert!(all.parts > 0 && all.most > 0, "no part of a batch was tried, or never the most bytes");
     println!(
-        "ok oracle: {} batches, {} schedules, {} check values and {} refusals, {} of a key of zeros, \
-         as the Rust and docs/SCOPE.md have them",
-        run.batches, run.schedules, run.checks, run.refusals, run.zeros
+        "ok oracle: {} batches in {} calls, {} of these with a part of a batch and {} of {MOST} bytes, {} schedules, \
+         {} check values and {} refusals, {} of a key of zeros, as the Rust and docs/SCOPE.md have them",
+        all.batches, all.calls, all.parts, all.most, all.schedules, all.checks, all.refusals, all.zeros
     );
 }

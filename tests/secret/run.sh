@@ -1,6 +1,6 @@
 #!/bin/sh
 # Every exported function under valgrind's memcheck with key, schedule and block bytes marked as undefined, but for one bit of a key, which says
-# that it is not zeros: a branch or an address that depends on anything else fails the run. Four faults planted in front of the calls must be
+# that it is not zeros: a branch or an address that depends on anything else fails the run. Five faults planted in front of the calls must be
 # caught, or the run fails too.
 top=$(cd "$(dirname "$0")/../.." && pwd)
 . "$top/tools/common.sh"
@@ -19,9 +19,10 @@ watch
     head -40 "$out/memcheck.log"
     fail "memcheck reports a use of secret bytes, or the run ended with status $status"
 }
-for fault in 'branch:Conditional jump' 'lookup:Use of uninitialised value' 'early:Conditional jump' 'refused:Conditional jump'; do
+for fault in 'branch:Conditional jump' 'lookup:Use of uninitialised value' 'early:Conditional jump' 'refused:Conditional jump' \
+    'part:Conditional jump'; do
     watch "${fault%%:*}"
     grep -A1 "${fault#*:}" "$out/memcheck.log" | grep -q ' with_fault (.*secret.c' ||
         fail "the planted ${fault%%:*} was not caught (status $status; $out/memcheck.log)"
 done
-echo "ok secret: no report, and the four planted faults were caught"
+echo "ok secret: no report, and the five planted faults were caught"

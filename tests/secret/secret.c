@@ -13,6 +13,7 @@
  *   secret lookup     has a table lookup by a key byte planted there: the same
  *   secret early      has a test for zeros planted there that ends at the first byte that is none: the same
  *   secret refused    has a branch on a key byte planted in front of a refused call: the same
+ *   secret part       has a branch on a block's last byte planted in front of a call with a batch and a part of one: the same
  */
 #include <stdio.h>
 #include <stdlib.h>
@@ -31,7 +32,7 @@ static volatile uint8_t table[256];
 __attribute__((noinline)) static uint32_t with_fault(const struct call *c, uint32_t direction, void *const at[3],
                                                      const size_t n[3])
 {
-    const uint8_t *key = at[0];
+    const uint8_t *key = at[0], *input = at[1];
     uint8_t first = key[0];
     size_t i;
 
@@ -40,6 +41,7 @@ __attribute__((noinline)) static uint32_t with_fault(const struct call *c, uint3
     if (c->takes[0] == 'k' && n[0] == 16 && !strcmp(planted, "early"))
         for (i = 0; i < 16 && key[i] == 0; i++) table[i] = 1;
     if (c->takes[0] == 'k' && n[0] == 17 && !strcmp(planted, "refused") && first == 1) table[0] = 1;
+    if (c->takes[1] == 'i' && n[1] == 80 && n[2] == 80 && !strcmp(planted, "part") && input[79] == 1) table[0] = 1;
     return run(c, direction, at, n);
 }
 
@@ -115,7 +117,8 @@ static void watch(const struct call *c, uint32_t direction, const size_t n[3])
     watch_bit(c, direction, n, bit);
 }
 
-/* One buffer at each length, the others right; then all buffers at each of the lengths around the limits. */
+/* One buffer at each length, the others right; input and output at each length together, so that there are parts of a
+   batch, several batches, and both; then all buffers at each of the lengths around the limits. */
 static void watch_lengths(const struct call *c, uint32_t direction)
 {
     static const size_t around[] = {0,  1,  3,  4,  15, 16, 17, 24,  31,  32,  33, 48,
@@ -124,10 +127,12 @@ static void watch_lengths(const struct call *c, uint32_t direction)
     int b, other;
 
     for (z = 0; z < SIZES; z++)
-        for (b = 0; b <= last_of(c); b++)
+        for (b = 0; b <= last_of(c) + (c->takes[1] == 'i'); b++)
             for (i = 0; i <= LONGEST; i++) {
-                for (other = 0; other <= last_of(c); other++) n[other] = right_length(c, other, &sizes[z]);
-                n[b] = i;
+                for (other = 0; other <= last_of(c); other++)
+                    n[other] = right_length(c, other, &sizes[z], c->w->slots);
+                if (b <= last_of(c)) n[b] = i;
+                else n[1] = n[2] = i;
                 watch(c, direction, n);
             }
     for (i = 0; i < count; i++)
@@ -145,7 +150,7 @@ static void watch_bits(const struct call *c, uint32_t direction)
     int b;
 
     for (z = 0; z < SIZES; z++) {
-        for (b = 0; b <= last_of(c); b++) n[b] = right_length(c, b, &sizes[z]);
+        for (b = 0; b <= last_of(c); b++) n[b] = right_length(c, b, &sizes[z], c->w->slots);
         for (bit = 0; bit < 8 * n[0]; bit++) watch(c, direction, n);
         memset(buffer[0], 0, n[0]);
         watch_bit(c, direction, n, 0);

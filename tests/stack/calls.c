@@ -13,16 +13,16 @@
         locker_aes_clear_stack();                                                                                     \
     }
 
-CALL(door_encrypt, locker_aes(LOCKER_AES_ENCRYPT, key, key_len, input, 64, output, 64))
-CALL(door_decrypt, locker_aes(LOCKER_AES_DECRYPT, key, key_len, input, 64, output, 64))
+CALL(door_encrypt, locker_aes(LOCKER_AES_ENCRYPT, key, key_len, input, length, output, length))
+CALL(door_decrypt, locker_aes(LOCKER_AES_DECRYPT, key, key_len, input, length, output, length))
 /* refused after the key was looked at: answer is 0 where it is the right one */
-CALL(door_refused, locker_aes(2, key, key_len, input, 64, output, 64) - LOCKER_AES_BAD_DIRECTION)
+CALL(door_refused, locker_aes(2, key, key_len, input, length, output, length) - LOCKER_AES_BAD_DIRECTION)
 CALL(expand32, locker_aes_expand32(key, key_len, schedule32, words))
 CALL(expand64, locker_aes_expand64(key, key_len, schedule64, words))
-CALL(encrypt32, locker_aes_encrypt32(schedule32, words, input, 32, output, 32))
-CALL(encrypt64, locker_aes_encrypt64(schedule64, words, input, 64, output, 64))
-CALL(decrypt32, locker_aes_decrypt32(schedule32, words, input, 32, output, 32))
-CALL(decrypt64, locker_aes_decrypt64(schedule64, words, input, 64, output, 64))
+CALL(encrypt32, locker_aes_encrypt32(schedule32, words, input, length, output, length))
+CALL(encrypt64, locker_aes_encrypt64(schedule64, words, input, length, output, length))
+CALL(decrypt32, locker_aes_decrypt32(schedule32, words, input, length, output, length))
+CALL(decrypt64, locker_aes_decrypt64(schedule64, words, input, length, output, length))
 CALL(check32, locker_aes_check32(schedule32, words, output, 3))
 CALL(check64, locker_aes_check64(schedule64, words, output, 3))
 
@@ -36,21 +36,22 @@ static void large_frame(void)
 {
     uint8_t large[16384];
     fill(large, sizeof large);
-    answer = locker_aes_decrypt64(schedule64, words, input, 64, output, 64);
+    answer = locker_aes_decrypt64(schedule64, words, input, length, output, length);
 }
 
 static void large_frame_cleared(void)
 {
     uint8_t large[16384];
     fill(large, sizeof large);
-    answer = locker_aes_decrypt64(schedule64, words, input, 64, output, 64);
+    answer = locker_aes_decrypt64(schedule64, words, input, length, output, length);
     locker_aes_clear_stack();
 }
 
-#define ROW(name, bits, direction, door) {#name, name, name##_cleared, bits, direction, door}
+#define ROW(name, bits, direction, blocks, door) {#name, name, name##_cleared, bits, direction, blocks, door}
 const struct call calls[] = {
-    ROW(door_encrypt, 64, 0, 1), ROW(door_decrypt, 64, 1, 1), ROW(door_refused, 64, 0, 1), ROW(expand32, 32, 0, 0),
-    ROW(expand64, 64, 0, 0),     ROW(encrypt32, 32, 0, 0),    ROW(encrypt64, 64, 0, 0),    ROW(decrypt32, 32, 1, 0),
-    ROW(decrypt64, 64, 1, 0),    ROW(check32, 32, 0, 0),      ROW(check64, 64, 0, 0),      ROW(large_frame, 64, 1, 0),
+    ROW(door_encrypt, 64, 0, 1, 1), ROW(door_decrypt, 64, 1, 1, 1), ROW(door_refused, 64, 0, 1, 1),
+    ROW(expand32, 32, 0, 0, 0),     ROW(expand64, 64, 0, 0, 0),     ROW(encrypt32, 32, 0, 1, 0),
+    ROW(encrypt64, 64, 0, 1, 0),    ROW(decrypt32, 32, 1, 1, 0),    ROW(decrypt64, 64, 1, 1, 0),
+    ROW(check32, 32, 0, 0, 0),      ROW(check64, 64, 0, 0, 0),      ROW(large_frame, 64, 1, 1, 0),
 };
 const size_t call_count = sizeof calls / sizeof calls[0];

@@ -34,5 +34,5 @@ for compiler in "$CC" gcc clang g++ clang++; do
         tried=$((tried + 1))
     done
 done
-echo "ok stack: the door leaves nothing on the stack, locker_aes_clear_stack() nothing at all;" \
+echo "ok stack: from one block to three batches the door leaves nothing on the stack, locker_aes_clear_stack() nothing at all;" \
     "$deepest bytes of stack at most; $tried builds of the callers, by$compilers"

@@ -1,18 +1,19 @@
 /*
  * What a call leaves behind: every call runs on a painted stack, and afterwards the dead stack and the registers that a
- * call may change are looked at.
+ * call may change are looked at. A call that takes blocks runs with every number of them up to three batches.
  *
  *  - Compared: the same call with another key, and with other blocks. Whatever differs depends on a secret, and that
  *    decides.
  *  - Searched for, to say what it is: the key's bytes, FIPS-197's round keys, words of the schedule, the bitsliced
- *    states between any two steps of the rounds (each with any number of row shifts, with and without the 63), and the
- *    bytes of CMAC's L and K1. It counts only where something differs. Addresses and the stack protector's canary are
- *    new in each process, and the same in all its calls; with the zeros beside them they can equal such a word by
- *    chance. (In one process of 16 a return address did: 00 00 f0 f3 is a word of this key's 32-bit schedule.)
+ *    states between any two steps of the rounds (each with any number of row shifts, with and without the 63), the bytes
+ *    of CMAC's L and K1, those of the blocks, and what becomes of the zeros that fill up a part of a batch. It counts
+ *    only where something differs. Addresses and the stack protector's canary are new in each process, and the same in
+ *    all its calls; with the zeros beside them they can equal such a word by chance. (In one process of 16 a return
+ *    address did: 00 00 f0 f3 is a word of this key's 32-bit schedule.)
  *
  * The door must leave nothing on the stack. What the other calls leave is only shown (stack show); behind the header's
- * helper neither stack nor registers may keep anything. Five planted calls, and the calls without the helper, show that
- * the scan finds; a sixth, that it does not count what only looks like a schedule.
+ * helper neither stack nor registers may keep anything. A planted call for each kind, and the calls without the helper,
+ * show that the scan finds; another, that it does not count what only looks like a schedule.
  */
 #include <stdio.h>
 #include <stdlib.h>
@@ -22,7 +23,7 @@
 #include "calls.h"
 #include "locker_aes.h"
 
-enum { DEEP = 1 << 16, PAINT = 0xa5, MOST = 8192 };
+enum { DEEP = 1 << 16, PAINT = 0xa5, MOST = 1 << 14 };
 
 struct after {
     uint64_t plain[9];
@@ -30,10 +31,10 @@ struct after {
 };
 void on_stack(void *top, void (*call)(void), struct after *after);
 
-uint8_t key[32], input[64], output[64];
+uint8_t key[32], input[MOST_BYTES], output[MOST_BYTES];
 uint32_t schedule32[120], answer;
 uint64_t schedule64[120];
-size_t key_len, words;
+size_t key_len, words, length;
 
 static uint64_t stack[DEEP / 8], dead[3][DEEP / 8]; /* as words, for the alignment */
 static struct after registers, after[3]; /* one place for the call, so that no address differs */
@@ -45,9 +46,10 @@ struct kind {
     size_t size, count, seen;
     uint64_t word[MOST];
 } kinds[] = {
-    {.name = "schedule words"}, {.name = "key bytes"}, {.name = "round keys"}, {.name = "states"}, {.name = "subkey bytes"},
+    {.name = "schedule words"}, {.name = "key bytes"},   {.name = "round keys"},   {.name = "states"},
+    {.name = "subkey bytes"},   {.name = "input bytes"}, {.name = "output bytes"}, {.name = "bytes from zeros"},
 };
-enum { SCHEDULE, KEY, ROUND_KEYS, STATES, SUBKEYS, KINDS };
+enum { SCHEDULE, KEY, ROUND_KEYS, STATES, SUBKEYS, INPUT, OUTPUT, FROM_ZEROS, KINDS };
 
 static int order(const void *a, const void *b)
 {
@@ -109,33 +111,51 @@ static void look_for_states(const struct width *w, int direction, const uint8_t 
         }
 }
 
-/* CMAC's L, which is encrypted zeros, or K1, which is twice that. */
-static void subkey(int doubled, uint8_t *to)
+/* Encrypted zeros, which is CMAC's L, or decrypted ones. */
+static void from_zeros(int direction, uint8_t *to)
 {
     memset(to, 0, 16);
-    cipher(to, keys, key_len / 4 + 6);
-    if (doubled) twice(to);
+    (direction ? inv_cipher : cipher)(to, keys, key_len / 4 + 6);
+}
+
+/* CMAC's K1, which is twice L. */
+static void subkey(uint8_t *to)
+{
+    from_zeros(0, to);
+    twice(to);
+}
+
+/* Every four bytes that follow each other. */
+static void look_for_bytes(size_t kind, const uint8_t *bytes, size_t n)
+{
+    for (size_t i = 0; i + 4 <= n; i++) look_for(&kinds[kind], bytes + i);
 }
 
 static void prepare(const struct call *call, const struct size *size)
 {
     const struct width *w = call->bits == 32 ? &w32 : &w64;
-    uint8_t batch[2][64] = {{0}}; /* what a check value encrypts: zeros, and K1 in slot 0 */
-    int check = !strncmp(call->name, "check", 5);
+    const size_t batch = 16 * w->slots, n = call->blocks ? length : 2 * batch;
+    uint8_t worked[MOST_BYTES] = {0}, block[16]; /* worked on: the blocks, with zeros behind; or a check value's batches */
     size_t i, k;
 
-    subkey(1, batch[1]);
+    if (call->blocks) memcpy(worked, input, n);
+    else subkey(worked + batch);
     for (k = 0; k < KINDS; k++) {
         kinds[k].count = kinds[k].seen = 0;
         kinds[k].size = k == SCHEDULE || k == STATES ? w->word : 4;
     }
     for (i = 0; i < words; i++)
         look_for(&kinds[SCHEDULE], w == &w32 ? (const void *)&schedule32[i] : (const void *)&schedule64[i]);
-    for (i = 0; i + 4 <= size->key; i++) look_for(&kinds[KEY], key + i);
+    look_for_bytes(KEY, key, size->key);
     for (i = size->key; i < 16 * (size->rounds + 1); i += 4) look_for(&kinds[ROUND_KEYS], keys + i);
-    for (i = 0; i < (check ? 2 : 1); i++) look_for_states(w, call->direction, check ? batch[i] : input, size->rounds);
-    for (k = 0; k < 2; k++)
-        for (subkey((int)k, batch[0]), i = 0; i + 4 <= 16; i++) look_for(&kinds[SUBKEYS], batch[0] + i);
+    for (i = 0; i < n; i += batch) look_for_states(w, call->direction, worked + i, size->rounds);
+    from_zeros(0, block), look_for_bytes(SUBKEYS, block, 16);
+    subkey(block), look_for_bytes(SUBKEYS, block, 16);
+    if (call->blocks) {
+        look_for_bytes(INPUT, input, length);
+        look_for_bytes(OUTPUT, output, length);
+        from_zeros(call->direction, block), look_for_bytes(FROM_ZEROS, block, 16);
+    }
     for (k = 0; k < KINDS; k++) qsort(kinds[k].word, kinds[k].count, 8, order);
 }
 
@@ -146,12 +166,13 @@ static int depends(size_t at, size_t n)
     return memcmp(searched, searched + DEEP, n) || memcmp(searched, searched + 2 * DEEP, n);
 }
 
-/* Every such place that the call came to, aligned or not. */
-static void search(size_t deep)
+/* Every such place that the last call came to, aligned or not. */
+static void search(const struct call *call, const struct size *size, size_t deep)
 {
     static uint8_t met[MOST];
     const uint8_t *bytes = (const uint8_t *)dead[0];
     size_t k, at;
+    prepare(call, size);
     for (k = 0; k < KINDS; k++) {
         struct kind *kind = &kinds[k];
         memset(met, 0, sizeof met);
@@ -218,45 +239,44 @@ static struct left run(void (*call)(void), const struct call *of, const struct s
         left.on_stack += differ(dead[0], dead[turn], sizeof dead[0]);
         left.in_registers += differ(&after[0], &after[turn], sizeof after[0]);
     }
-    prepare(of, size);
-    search(left.deep);
     return left;
 }
 
-static void say(const char *how, const struct call *call, const struct left *left)
+static void say(const char *how, const struct call *call, const struct size *size, const struct left *left)
 {
-    printf("%-12s AES-%zu %-7s %5zu deep;", call->name, 8 * key_len, how, left->deep);
-    for (size_t k = 0; k < KINDS; k++) printf(" %zu of %zu %s,", kinds[k].seen, kinds[k].count, kinds[k].name);
+    search(call, size, left->deep);
+    printf("%-12s AES-%zu %-7s", call->name, 8 * key_len, how);
+    if (call->blocks) printf(" %2zu blocks", length / 16);
+    printf(" %5zu deep;", left->deep);
+    for (size_t k = 0; k < KINDS; k++)
+        if (kinds[k].seen) printf(" %zu of %zu %s,", kinds[k].seen, kinds[k].count, kinds[k].name);
     printf(" %zu bytes of stack and %zu of registers depend on key or blocks\n", left->on_stack, left->in_registers);
 }
 
 /* The planted calls. What they leave is in a local, dead when they return. */
-static void keep(const volatile void *bytes) /* the compiler must take it that this is read */
+static void leave(const void *bytes, size_t n)
 {
-    __asm__ volatile("" : : "r"(bytes) : "memory");
+    uint8_t copy[8 * 120];
+    memcpy(copy, bytes, n);
+    __asm__ volatile("" : : "r"(copy) : "memory"); /* the compiler must take it that this is read */
+    answer = 0;
 }
 
 static void plant_schedule(void) /* a door that does not erase */
 {
     uint64_t schedule[120];
     answer = locker_aes_expand64(key, key_len, schedule, words);
-    if (!answer) answer = locker_aes_encrypt64(schedule, words, input, 64, output, 64);
+    if (!answer) answer = locker_aes_encrypt64(schedule, words, input, length, output, length);
 }
 
 static void plant_key(void)
 {
-    uint8_t copy[32];
-    memcpy(copy, key, sizeof copy);
-    keep(copy);
-    answer = 0;
+    leave(key, sizeof key);
 }
 
 static void plant_round_keys(void)
 {
-    uint8_t round_keys[MOST_KEYS];
-    key_expansion(key, key_len, round_keys);
-    keep(round_keys);
-    answer = 0;
+    leave(keys, sizeof keys);
 }
 
 static void plant_state(void) /* the state before the last round key of an encryption */
@@ -270,71 +290,97 @@ static void plant_state(void) /* the state before the last round key of an encry
         for (size_t n = 0; n < 16; n++)
             for (size_t p = 0; p < 8; p++) packed[p] |= (uint64_t)(s[n] >> p & 1) << place(&w64, n, slot);
     }
-    keep(packed);
-    answer = 0;
+    leave(packed, sizeof packed);
 }
 
 static void plant_subkey(void)
 {
     uint8_t k1[16];
-    subkey(1, k1);
-    keep(k1);
-    answer = 0;
+    subkey(k1);
+    leave(k1, sizeof k1);
+}
+
+static void plant_input(void)
+{
+    leave(input, 16);
+}
+
+static void plant_output(void)
+{
+    if (!locker_aes_encrypt64(schedule64, words, input, length, output, length)) leave(output, 16);
+}
+
+static void plant_from_zeros(void)
+{
+    uint8_t block[16];
+    from_zeros(0, block);
+    leave(block, sizeof block);
 }
 
 static uint64_t alike[120];
 static void plant_alike(void) /* words that chance made equal to turn 0's schedule: the same in each turn */
 {
-    uint64_t copy[120];
-    memcpy(copy, alike, sizeof copy);
-    keep(copy);
-    answer = 0;
+    leave(alike, sizeof alike);
+}
+
+static int show;
+static size_t deepest, bare, held;
+
+static void wrong(const char *what, const struct call *c, const struct size *size, const struct left *left)
+{
+    say("leaves", c, size, left);
+    printf("FAILED: %s\n", what);
+    exit(1);
+}
+
+/* A call with so many blocks, without the helper and with it. */
+static void look_at(const struct call *c, const struct size *size)
+{
+    struct left left = run(c->bare, c, size);
+
+    if (show) say("bare", c, size, &left);
+    if (strcmp(c->name, "large_frame") && left.deep > deepest) deepest = left.deep;
+    held += left.in_registers;
+    if (!c->door) bare += left.on_stack;
+    else if (left.on_stack) wrong("the door leaves something on the stack", c, size, &left);
+
+    left = run(c->cleared, c, size);
+    if (show) say("cleared", c, size, &left);
+    if (left.on_stack || left.in_registers) wrong("locker_aes_clear_stack() leaves something", c, size, &left);
 }
 
 int main(int argc, char **argv)
 {
     static const struct {
         void (*call)(void);
-        size_t kind, least;
-    } plants[] = {{plant_schedule, SCHEDULE, 80},
-                  {plant_key, KEY, 13},
-                  {plant_round_keys, ROUND_KEYS, 40},
-                  {plant_state, STATES, 8},
-                  {plant_subkey, SUBKEYS, 13}};
-    static const struct call planted = {"planted", NULL, NULL, 64, 0, 0};
+        size_t least;
+    } plants[KINDS] = {[SCHEDULE] = {plant_schedule, 80}, [KEY] = {plant_key, 13},
+                       [ROUND_KEYS] = {plant_round_keys, 40}, [STATES] = {plant_state, 8},
+                       [SUBKEYS] = {plant_subkey, 13}, [INPUT] = {plant_input, 13},
+                       [OUTPUT] = {plant_output, 13}, [FROM_ZEROS] = {plant_from_zeros, 13}};
+    static const struct call planted = {"planted", NULL, NULL, 64, 0, 1, 0};
     const char *fault = plain_begin();
-    size_t size, i, deepest = 0, bare = 0, held = 0;
-    int show = argc > 1 && !strcmp(argv[1], "show");
+    const struct size *size;
     struct left left;
+    size_t i;
 
     if (fault) return printf("FAILED: the judge misses %s\n", fault), 1;
-    for (size = 0; size < SIZES; size++) {
-        for (i = 0; i < sizeof plants / sizeof plants[0]; i++) {
-            left = run(plants[i].call, &planted, &sizes[size]);
-            if (show) say("planted", &planted, &left);
-            if (kinds[plants[i].kind].seen < plants[i].least)
-                return printf("FAILED: planted %s are not found\n", kinds[plants[i].kind].name), 1;
+    show = argc > 1 && !strcmp(argv[1], "show");
+    for (size = sizes; size < sizes + SIZES; size++) {
+        length = 64;
+        for (i = 0; i < KINDS; i++) {
+            left = run(plants[i].call, &planted, size);
+            search(&planted, size, left.deep);
+            if (kinds[i].seen < plants[i].least) return printf("FAILED: planted %s are not found\n", kinds[i].name), 1;
         }
-        begin(0, &sizes[size]);
+        begin(0, size);
         memcpy(alike, schedule64, sizeof alike);
-        left = run(plant_alike, &planted, &sizes[size]);
-        if (left.on_stack || kinds[SCHEDULE].seen)
-            return say("planted", &planted, &left), printf("FAILED: what depends on no secret is counted\n"), 1;
-        for (i = 0; i < call_count; i++) {
-            const struct call *c = &calls[i];
-            left = run(c->bare, c, &sizes[size]);
-            if (show) say("bare", c, &left);
-            if (strcmp(c->name, "large_frame") && left.deep > deepest) deepest = left.deep;
-            held += left.in_registers;
-            if (!c->door) bare += left.on_stack;
-            else if (left.on_stack)
-                return say("leaves", c, &left), printf("FAILED: the door leaves something on the stack\n"), 1;
-
-            left = run(c->cleared, c, &sizes[size]);
-            if (show) say("cleared", c, &left);
-            if (left.on_stack || left.in_registers)
-                return say("leaves", c, &left), printf("FAILED: locker_aes_clear_stack() leaves something\n"), 1;
-        }
+        left = run(plant_alike, &planted, size);
+        search(&planted, size, left.deep);
+        if (left.on_stack || kinds[SCHEDULE].seen) wrong("what depends on no secret is counted", &planted, size, &left);
+        for (i = 0; i < call_count; i++) /* a batch has as many bytes as a word bits */
+            for (length = 16; length <= (calls[i].blocks ? 3 * (size_t)calls[i].bits : 16); length += 16)
+                look_at(&calls[i], size);
     }
     if (!bare || !held) return printf("FAILED: without the helper nothing was found: the scan does not see\n"), 1;
     if (deepest > LOCKER_AES_STACK) return printf("FAILED: a call uses %zu bytes of stack\n", deepest), 1;

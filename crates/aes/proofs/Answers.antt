@@ -1,23 +1,25 @@
 -- What the code's tests say of the promises' tests, once over the width and the direction. Assumes nothing.
 use mathlib.Core.Path.{_≡_, refl, sym, _∙_, ap}
-use mathlib.Core.Bool.{Bool, true, false, cond}
+use mathlib.Core.Bool.{Bool, true, false, not, cond}
 use mathlib.Core.List.{List, _++_, append-nil}
-use Prim.Native.Nat.{ℕ, _+_, _*_, _≤_}
+use Prim.Native.Nat.{ℕ, _+_, _≤_}
 use native.Mathlib.Omega.{arith}
 use borrow.Author.Tests.{eqb-true, eqb-false}
 use lib.Dec.{eqb}
 use lib.ListN.{length, take, drop-of-length-le}
 use lib.Seq.{sets, sets-eq}
 use Rattle.fips197.proofs.Blocks.{reads, reads-part}
-use Rattle.lanes.specs.Layout.{Width, slots}
+use Rattle.lanes.specs.Layout.{Width}
 use Rattle.lanes.specs.Sizes.{Size, keySize, scheduleSize}
-use Rattle.lanes.specs.Schedule.{reading, scheduleOf, cryptedBatch}
+use Rattle.lanes.specs.Schedule.{reading, scheduleOf, crypted}
 use Rattle.lanes.proofs.Sizes.{schedule-found}
 use Rattle.cipher.specs.Fixslice.{Scheduled}
 use Rattle.outcome.specs.Outcome.{answers}
 use Rattle.outcome.proofs.Laws.{is, is-not, differs, agrees, stop, pass}
-use Rattle.calls.specs.Calls.{keyWordsOf, zeroKey, Taken, scheduleWords, roundsOf, keysOf, expandOutcome, cryptOutcome, checkOf, checkValue, checkOutcome}
+use Rattle.calls.specs.Calls.{keyWordsOf, zeroKey, Taken, scheduleWords, roundsOf, keysOf, wholeBlocks, expandOutcome, cryptOutcome}
+use Rattle.calls.specs.Calls.{checkOf, checkValue, checkOutcome}
 use Rattle.calls.proofs.ZeroKey.{expand-6 as zero-key-6, key-passes}
+use Rattle.calls.proofs.WholeBlocks.{was-whole, blocks-pass}
 use Rattle.aes.specs.KeySize.{found, sizeFor}
 use Rattle.aes.specs.declared.KeySize.the-variants.{Of, NoKey}
 
@@ -86,7 +88,7 @@ scheduled n r h =
     }
 
 module _ (s : List ℕ) {m : ℕ} (r : m ≡ scheduleSize (length s) .rounds) where
-  -- ---- a call on one full batch
+  -- ---- a call on blocks
   module _ (c : List (List ℕ) → List ℕ → List ℕ) (w : Width) (i o : List ℕ) where
     pub crypt-2 : m ≡ 0 → answers 2 o ≡ cryptOutcome c w s i o
     unfolding cryptOutcome roundsOf
@@ -96,18 +98,19 @@ module _ (s : List ℕ) {m : ℕ} (r : m ≡ scheduleSize (length s) .rounds) wh
       none : scheduleSize (length s) .rounds ≡ 0 → ⊥
       none e = p (r ∙ e)
 
-      pub crypt-3 : (length i ≡ 16 * slots w → ⊥) → answers 3 o ≡ cryptOutcome c w s i o
+      pub crypt-3 : not (wholeBlocks (length i)) ≡ true → answers 3 o ≡ cryptOutcome c w s i o
       unfolding cryptOutcome roundsOf
-      crypt-3 q = pass 2 o (is-not none) (stop 3 o _ (differs q))
+      crypt-3 q = pass 2 o (is-not none) (stop 3 o _ q)
 
-      module _ (q : length i ≡ 16 * slots w) where
-        pub crypt-4 : (length o ≡ 16 * slots w → ⊥) → answers 4 o ≡ cryptOutcome c w s i o
+      module _ (q : not (wholeBlocks (length i)) ≡ false) where
+        pub crypt-4 : (length o ≡ length i → ⊥) → answers 4 o ≡ cryptOutcome c w s i o
         unfolding cryptOutcome roundsOf
-        crypt-4 t = pass 2 o (is-not none) (pass 3 o (agrees q) (stop 4 o _ (differs t)))
+        crypt-4 t = pass 2 o (is-not none) (pass 3 o q (stop 4 o _ (differs t)))
 
-        pub crypt-0 : length o ≡ 16 * slots w → {x : List ℕ} → x ≡ cryptedBatch c w m s i → answers 0 x ≡ cryptOutcome c w s i o
+        pub crypt-0 : length o ≡ length i → {x : List ℕ} → x ≡ crypted c w m s i → answers 0 x ≡ cryptOutcome c w s i o
         unfolding cryptOutcome roundsOf keysOf
-        crypt-0 t e = pass 2 o (is-not none) (pass 3 o (agrees q) (pass 4 o (agrees t) (ap (answers 0) (e ∙ ap (λ (n : ℕ). cryptedBatch c w n s i) r))))
+        crypt-0 t e = pass 2 o (is-not none)
+            (blocks-pass i o (record { whole = was-whole _ q; room = t }) o (ap (answers 0) (e ∙ ap (λ (n : ℕ). crypted c w n s i) r)))
 
   -- ---- the key check value
   module _ (w : Width) (o : List ℕ) where

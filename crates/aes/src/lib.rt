@@ -1,10 +1,10 @@
-// The public calls: expand a key, encrypt and decrypt a batch, key check value, at each width. The numbers they answer are docs/SCOPE.md's.
+// The public calls: expand a key, encrypt and decrypt blocks, key check value, at each width. The numbers they answer are docs/SCOPE.md's.
 pub mod w32;
 pub mod w64;
 
 ghost use mathlib.Core.Path.{_≡_};
 ghost use Rattle.lanes.specs.Sizes.{scheduleSize};
-ghost use Rattle.calls.specs.Calls.{zeroKey};
+ghost use Rattle.calls.specs.Calls.{zeroKey, wholeBlocks};
 ghost use Rattle.aes.specs.KeySize.{sizeFor};
 
 // What the length of a key says: the number of rounds and the words of its schedule; or that it is no key.
@@ -32,6 +32,19 @@ pub fn zero_key(key: &[u8]) -> bool
         joined |= key[i];
     }
     joined == 0
+}
+
+// Whether so many bytes are taken as blocks in one call: 16 to 65,536, a multiple of 16.
+pub fn whole_blocks(bytes: usize) -> bool
+    ensures { λ r. ⌜ r ≡ wholeBlocks bytes ⌝ }
+{
+    if bytes < 16 {
+        return false;
+    }
+    if bytes > 65536 {
+        return false;
+    }
+    bytes % 16 == 0
 }
 
 // The number of rounds of a schedule of so many words; 0 where it is none.

@@ -1,3 +1,4 @@
 mod Limits
 pub mod Directions
 pub mod ZeroKey
+pub mod WholeBlocks

@@ -2,13 +2,13 @@
 -- of zeros, and which is answered where several apply. Assumes nothing.
 use mathlib.Core.Path.{_≡_, refl}
 use mathlib.Core.List.{List, [], _∷_, _++_, map}
-use Prim.Native.Nat.{ℕ, _-_}
+use Prim.Native.Nat.{ℕ, _+_, _-_}
 use lib.ListN.{replicate}
 use Rattle.fips197.specs.Aes.{range, cipher, invCipher}
 use Rattle.lanes.specs.Layout.{w32, w64}
 use Rattle.lanes.specs.Sizes.{keySize, scheduleSize}
 use Rattle.outcome.specs.Outcome.{Outcome, answers}
-use Rattle.calls.specs.Calls.{keyWordsOf, zeroKey, scheduleWords, roundsOf, expandOutcome, cryptOutcome, checkOutcome, doorOutcome}
+use Rattle.calls.specs.Calls.{keyWordsOf, zeroKey, scheduleWords, roundsOf, wholeBlocks, expandOutcome, cryptOutcome, checkOutcome, doorOutcome}
 
 abbrev numberOf : Outcome (List ℕ) → ℕ
 numberOf (answers n x) = n
@@ -46,16 +46,44 @@ one-bit-limits : (oneBit 16 88 ≡ replicate 16 0) × (oneBit 32 120 ≡ replica
 unfolding oneBit expandOutcome keyWordsOf zeroKey scheduleWords keySize
 one-bit-limits = (refl, refl)
 
--- encrypt and decrypt, by the schedule's length, with a full batch; then by the input's, with an output that is none
-crypts : List ℕ
-crypts = map (λ s. numberOf (cryptOutcome cipher w32 (zeros s) (zeros 32) (zeros 32))) (0 ∷ 87 ∷ 88 ∷ 89 ∷ 104 ∷ 119 ∷ 120 ∷ 121 ∷ [])
+-- encrypt and decrypt, by the schedule's length, with right lengths of input and output and with wrong ones
+crypts : ℕ → ℕ → List ℕ
+crypts i o = map (λ s. numberOf (cryptOutcome cipher w32 (zeros s) (zeros i) (zeros o))) (0 ∷ 87 ∷ 88 ∷ 89 ∷ 104 ∷ 119 ∷ 120 ∷ 121 ∷ [])
 
-inputs : List ℕ
-inputs = map (λ i. numberOf (cryptOutcome invCipher w64 (zeros 120) (zeros i) (zeros 63))) (0 ∷ 32 ∷ 63 ∷ 64 ∷ 65 ∷ [])
+crypt-limits : (crypts 48 48 ≡ 2 ∷ 2 ∷ 0 ∷ 2 ∷ 2 ∷ 2 ∷ 0 ∷ 2 ∷ [])
+    × (crypts 47 48 ≡ 2 ∷ 2 ∷ 3 ∷ 2 ∷ 2 ∷ 2 ∷ 3 ∷ 2 ∷ [])
+    × (crypts 48 47 ≡ 2 ∷ 2 ∷ 4 ∷ 2 ∷ 2 ∷ 2 ∷ 4 ∷ 2 ∷ [])
+unfolding crypts cryptOutcome roundsOf scheduleSize wholeBlocks
+crypt-limits = (refl, refl, refl)
 
-crypt-limits : (crypts ≡ 2 ∷ 2 ∷ 0 ∷ 2 ∷ 2 ∷ 2 ∷ 0 ∷ 2 ∷ []) × (inputs ≡ 3 ∷ 3 ∷ 3 ∷ 4 ∷ 3 ∷ [])
-unfolding crypts inputs cryptOutcome roundsOf scheduleSize
-crypt-limits = (refl, refl)
+-- by the input's length, with an output of as many bytes, of a block more and of a block less; and the door with them
+inputs : (ℕ → ℕ) → List ℕ → List ℕ
+inputs out = map (λ i. numberOf (cryptOutcome invCipher w64 (zeros 120) (zeros i) (zeros (out i))))
+
+doorInputs : (ℕ → ℕ) → List ℕ → List ℕ
+doorInputs out = map (λ i. numberOf (doorOutcome 1 (replicate 16 1) (zeros i) (zeros (out i))))
+
+taken : List ℕ
+taken = 16 ∷ 32 ∷ 48 ∷ 64 ∷ 80 ∷ 65520 ∷ 65536 ∷ []
+
+refused : List ℕ
+refused = 0 ∷ 1 ∷ 15 ∷ 17 ∷ 31 ∷ 33 ∷ 47 ∷ 63 ∷ 65 ∷ 65535 ∷ 65537 ∷ 65552 ∷ []
+
+-- as a call by lengths answers them
+record InputLimits (answered : (ℕ → ℕ) → List ℕ → List ℕ) : Type 0 where
+  as-many : answered (λ i. i) taken ≡ replicate 7 0
+  a-block-more : answered (λ i. i + 16) taken ≡ replicate 7 4
+  a-block-less : answered (λ i. i - 16) taken ≡ replicate 7 4
+  no-blocks : answered (λ i. i) refused ≡ replicate 12 3
+  no-blocks-nor-room : answered (λ i. i + 16) refused ≡ replicate 12 3
+
+input-limits : InputLimits inputs
+unfolding inputs taken refused cryptOutcome roundsOf scheduleSize wholeBlocks
+input-limits = record { as-many = refl; a-block-more = refl; a-block-less = refl; no-blocks = refl; no-blocks-nor-room = refl }
+
+door-input-limits : InputLimits doorInputs
+unfolding doorInputs taken refused doorOutcome keyWordsOf zeroKey keySize wholeBlocks
+door-input-limits = record { as-many = refl; a-block-more = refl; a-block-less = refl; no-blocks = refl; no-blocks-nor-room = refl }
 
 -- the check value, by the output's length, under a schedule and under none
 checks : ℕ → List ℕ
@@ -74,5 +102,5 @@ doors x =
     map (λ d. numberOf (doorOutcome d (replicate 32 x) (zeros 64) (zeros 64))) (2 ∷ 0xffffffff ∷ 1 ∷ 0 ∷ [])
 
 door-limits : (doors 1 ≡ 1 ∷ 3 ∷ 4 ∷ 5 ∷ 5 ∷ 0 ∷ 0 ∷ []) × (doors 0 ≡ 1 ∷ 6 ∷ 6 ∷ 6 ∷ 6 ∷ 6 ∷ 6 ∷ [])
-unfolding doors doorOutcome keyWordsOf zeroKey keySize
+unfolding doors doorOutcome keyWordsOf zeroKey keySize wholeBlocks
 door-limits = (refl, refl)

@@ -2,4 +2,4 @@ pub mod Argument
 pub mod Arrangements
 pub mod Batches
 mod Steps
-mod OneBatch
+pub mod Loop

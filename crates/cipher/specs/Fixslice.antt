@@ -15,6 +15,12 @@ pub record Scheduled (n s : ℕ) : Type 0 where
   pub even : n % 2 ≡ 0
   pub some : 2 ≤ n
 
+-- and i bytes in are parts of q bytes, blocks or full batches, and o bytes out are as many
+pub record Whole (q n s i o : ℕ) : Type 0 where
+  pub schedule : Scheduled n s
+  pub whole : i % q ≡ 0
+  pub output : o ≡ i
+
 -- and i bytes in and o bytes out are a full batch each
 pub record Ready (w : Width) (n s i o : ℕ) : Type 0 where
   pub schedule : Scheduled n s

@@ -1,4 +1,4 @@
-// A full batch of two blocks in words of 32 bits, under any words as a schedule: they are read as docs/SCOPE.md says.
+// Full batches of two blocks in words of 32 bits, under any words as a schedule: they are read as docs/SCOPE.md says.
 ghost use Rattle.lanes.specs.Layout.{w32 as w};
 use mix_columns::w32::inv_mix_columns_0;
 use mix_columns::w32::inv_mix_columns_1;
@@ -25,10 +25,10 @@ const BATCH: usize = 32;
 ghost use mathlib.Core.Path.{_≡_};
 ghost use Prim.Native.Nat.{_+_, _-_, _*_, _%_, _≤_};
 ghost use lib.ListN.{length};
-ghost use Rattle.fips197.specs.Aes.{cipher};
-ghost use Rattle.lanes.specs.Schedule.{rowsShifted, rowsUnshifted, reading, encryptedBatch, decryptedBatch};
+ghost use Rattle.lanes.specs.Layout.{slots};
+ghost use Rattle.lanes.specs.Schedule.{rowsShifted, rowsUnshifted, encryptedBatch, decryptedBatch, encrypted, decrypted};
 ghost use Rattle.lanes.specs.Leaves.{Does, all};
-ghost use Rattle.cipher.specs.Fixslice.{Scheduled, Ready, addKeyIn, roundsIn, undoneIn};
+ghost use Rattle.cipher.specs.Fixslice.{Scheduled, Whole, Ready, addKeyIn, roundsIn, undoneIn};
 
 // XORs round key r, the eight words that start at offset 8r of the schedule, into the state.
 fn add_key(state: [Word; 8], rkeys: &[Word], r: usize) -> [Word; 8]
@@ -88,19 +88,15 @@ fn encrypt_batch(schedule: &[Word], n: usize, input: &[u8], output: &mut [u8])
     inv_bitslice(s3, output);
 }
 
-// Each batch of the input, of which a call has one: in a loop round the round loop clang inlines the S-box (docs/SPEED.md).
-pub fn encrypt(schedule: &[Word], n: usize, input: &[u8], output: &mut [u8])
-    requires { ⌜ Ready w n (length (now schedule)) (length (now input)) (length (now output)) ⌝ }
-    ensures { λ r. ⌜ now (output .exit) ≡ encryptedBatch w n (now (schedule .entry)) (now (input .entry)) ⌝ }
+// Full batches, one after the other: in a loop round the round loop clang inlines the S-box (docs/SPEED.md).
+pub fn encrypt_batches(schedule: &[Word], n: usize, input: &[u8], output: &mut [u8])
+    requires { ⌜ Whole (16 * slots w) n (length (now schedule)) (length (now input)) (length (now output)) ⌝ }
+    ensures { λ r. ⌜ now (output .exit) ≡ encrypted w n (now (schedule .entry)) (now (input .entry)) ⌝ }
 {
     for i in 0..input.len() / BATCH {
         let at = BATCH * i;
-        encrypt_batch(
-            schedule,
-            n,
-            &input[at..at + BATCH],
-            &mut output[at..at + BATCH],
-        );
+        let end = at + BATCH;
+        encrypt_batch(schedule, n, &input[at..end], &mut output[at..end]);
     }
 }
 
@@ -152,35 +148,14 @@ fn decrypt_batch(schedule: &[Word], n: usize, input: &[u8], output: &mut [u8])
     inv_bitslice(s2, output);
 }
 
-// Each batch of the input, as `encrypt`.
-pub fn decrypt(schedule: &[Word], n: usize, input: &[u8], output: &mut [u8])
-    requires { ⌜ Ready w n (length (now schedule)) (length (now input)) (length (now output)) ⌝ }
-    ensures { λ r. ⌜ now (output .exit) ≡ decryptedBatch w n (now (schedule .entry)) (now (input .entry)) ⌝ }
+// Full batches, one after the other.
+pub fn decrypt_batches(schedule: &[Word], n: usize, input: &[u8], output: &mut [u8])
+    requires { ⌜ Whole (16 * slots w) n (length (now schedule)) (length (now input)) (length (now output)) ⌝ }
+    ensures { λ r. ⌜ now (output .exit) ≡ decrypted w n (now (schedule .entry)) (now (input .entry)) ⌝ }
 {
     for i in 0..input.len() / BATCH {
         let at = BATCH * i;
-        decrypt_batch(
-            schedule,
-            n,
-            &input[at..at + BATCH],
-            &mut output[at..at + BATCH],
-        );
+        let end = at + BATCH;
+        decrypt_batch(schedule, n, &input[at..end], &mut output[at..end]);
     }
-}
-
-// A batch of zero bytes. A call, so that a goal says its result and not every byte.
-fn zeros() -> [u8; BATCH] {
-    [0u8; BATCH]
-}
-
-// One block under the round keys of slot 0.
-pub fn encrypt_block(schedule: &[Word], n: usize, block: [u8; 16]) -> [u8; 16]
-    requires { ⌜ Scheduled n (length (now schedule)) ⌝ }
-    ensures { λ r. ⌜ r ≡ cipher (reading w n (now (schedule .entry)) 0) block ⌝ }
-{
-    let mut input = zeros();
-    let mut output = zeros();
-    word::copy16(block, &mut input[0..16]);
-    encrypt(schedule, n, &input, &mut output);
-    super::load16(&output[0..16])
 }

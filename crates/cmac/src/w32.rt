@@ -1,6 +1,6 @@
 // CMAC at 32 bits, under any words as a schedule: they are read as docs/SCOPE.md says.
 ghost use Rattle.lanes.specs.Layout.{w32 as w};
-use cipher::w32 as batches;
+use blocks::w32::encrypt_block;
 
 type Word = u32;
 
@@ -21,7 +21,7 @@ pub fn subk(schedule: &[Word], n: usize) -> Subkeys
     ensures { λ r. ⌜
         (r .k1 ≡ subkey1 (cipher (reading w n (now (schedule .entry)) 0))) × (r .k2 ≡ subkey2 (cipher (reading w n (now (schedule .entry)) 0))) ⌝ }
 {
-    let k1 = double(batches::encrypt_block(schedule, n, [0u8; 16]));
+    let k1 = double(encrypt_block(schedule, n, [0u8; 16]));
     Subkeys { k1, k2: double(k1) }
 }
 
@@ -32,5 +32,5 @@ pub fn tag_of_block(schedule: &[Word], n: usize, message: [u8; 16]) -> [u8; 16]
 {
     let subkeys = subk(schedule, n);
     let k1 = subkeys.k1;
-    batches::encrypt_block(schedule, n, xor(k1, message))
+    encrypt_block(schedule, n, xor(k1, message))
 }

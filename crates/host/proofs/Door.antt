@@ -1,9 +1,9 @@
--- The door: each answer from the tests that lead there; and the schedule of a key holds FIPS-197's round keys in every slot, so a batch under it is
+-- The door: each answer from the tests that lead there; and the schedule of a key holds FIPS-197's round keys in every slot, so blocks under it are
 -- FIPS-197's with the key. Assumes nothing.
 use mathlib.Core.Path.{_≡_, _∙_, ap}
-use mathlib.Core.Bool.{true, false}
+use mathlib.Core.Bool.{true, false, not}
 use mathlib.Core.List.{List}
-use Prim.Native.Nat.{ℕ, _-_, _*_, _%_, _≤_, _<_}
+use Prim.Native.Nat.{ℕ, _-_, _%_, _≤_, _<_}
 use native.Mathlib.Nat.{mod-lt}
 use native.Mathlib.Omega.{arith}
 use borrow.Author.Tests.{eq-eqb, ne-eqb}
@@ -14,17 +14,18 @@ use Rattle.fips197.specs.Bytes.{Fit}
 use Rattle.fips197.specs.Aes.{sixteen, keyExpansion, cipher, invCipher}
 use Rattle.lanes.specs.Layout.{w64, slots, join}
 use Rattle.lanes.specs.Sizes.{keySize}
-use Rattle.lanes.specs.Schedule.{reading, scheduleOf, eachBlock, cryptedBatch}
+use Rattle.lanes.specs.Schedule.{reading, scheduleOf, eachBlock, blocksIn, crypted}
 use Rattle.lanes.proofs.Sizes.{key-found}
 use Rattle.lanes.proofs.EqualParts.{joined-same}
 use Rattle.schedule.proofs.Reading.{schedule-length, schedule-reads}
 use Rattle.cipher.specs.Fixslice.{Scheduled}
 use Rattle.outcome.specs.Outcome.{answers}
-use Rattle.outcome.proofs.Laws.{is, differs, agrees, stop, pass}
-use Rattle.calls.specs.Calls.{keyWordsOf, zeroKey, Taken, directed, doorOutcome}
+use Rattle.outcome.proofs.Laws.{is, differs, stop, pass}
+use Rattle.calls.specs.Calls.{keyWordsOf, zeroKey, Taken, wholeBlocks, TakenBlocks, directed, doorOutcome}
 use Rattle.calls.proofs.ZeroKey.{door-6 as zero-key-6, key-passes}
+use Rattle.calls.proofs.WholeBlocks.{was-whole, blocks-pass}
 use Rattle.calls.proofs.Directions.{neither, one-of}
-use Rattle.host.specs.Door.{crypted}
+use Rattle.host.specs.Door.{underKey}
 
 -- ---- the answers
 module _ (d : ℕ) (k i o : List ℕ) where
@@ -42,25 +43,28 @@ module _ (d : ℕ) (k i o : List ℕ) where
       unfolding keyWordsOf
       taken = record { right-length = p; not-zero = z }
 
-      pub door-3 : (length i ≡ 16 * slots w64 → ⊥) → answers 3 o ≡ doorOutcome d k i o
+      pub door-3 : not (wholeBlocks (length i)) ≡ true → answers 3 o ≡ doorOutcome d k i o
       unfolding doorOutcome
-      door-3 q = key-passes k taken o (stop 3 o _ (differs q))
+      door-3 q = key-passes k taken o (stop 3 o _ q)
 
-      module _ (q : length i ≡ 16 * slots w64) where
-        pub door-4 : (length o ≡ 16 * slots w64 → ⊥) → answers 4 o ≡ doorOutcome d k i o
+      module _ (q : not (wholeBlocks (length i)) ≡ false) where
+        pub door-4 : (length o ≡ length i → ⊥) → answers 4 o ≡ doorOutcome d k i o
         unfolding doorOutcome
-        door-4 r = key-passes k taken o (pass 3 o (agrees q) (stop 4 o _ (differs r)))
+        door-4 r = key-passes k taken o (pass 3 o q (stop 4 o _ (differs r)))
 
-        module _ (r : length o ≡ 16 * slots w64) where
+        module _ (r : length o ≡ length i) where
+          lent : TakenBlocks i o
+          lent = record { whole = was-whole _ q; room = r }
+
           pub door-5 : 1 < d → answers 5 o ≡ doorOutcome d k i o
           unfolding doorOutcome
-          door-5 t = key-passes k taken o (pass 3 o (agrees q) (pass 4 o (agrees r) (stop 5 o _ (neither d t))))
+          door-5 t = key-passes k taken o (blocks-pass i o lent o (stop 5 o _ (neither d t)))
 
-          pub door-0 : d ≤ 1 → {x : List ℕ} → x ≡ crypted d k i → answers 0 x ≡ doorOutcome d k i o
+          pub door-0 : d ≤ 1 → {x : List ℕ} → x ≡ underKey d k i → answers 0 x ≡ doorOutcome d k i o
           unfolding doorOutcome
-          door-0 t e = key-passes k taken o (pass 3 o (agrees q) (pass 4 o (agrees r) (pass 5 o (one-of d t) (ap (answers 0) e))))
+          door-0 t e = key-passes k taken o (blocks-pass i o lent o (pass 5 o (one-of d t) (ap (answers 0) e)))
 
--- ---- a batch under the schedule of a key
+-- ---- blocks under the schedule of a key
 module _ (key : List ℕ) (keyed : keySize (length key) .nk ≡ 0 → ⊥) where
   -- what the cipher asks of it
   pub scheduled : {n : ℕ} {s : List ℕ} → n ≡ keySize (length key) .rounds → s ≡ scheduleOf w64 (keySize (length key) .nk) key → Scheduled n (length s)
@@ -81,17 +85,17 @@ module _ (key : List ℕ) (keyed : keySize (length key) .nk ≡ 0 → ⊥) where
         ap (λ (n : ℕ). reading w64 n (scheduleOf w64 (keySize (length key) .nk) key) b) (f .sized .rounds-are)
         ∙ schedule-reads w64 (keySize (length key) .nk) key (f .sized .some) (f .at) fits b h
 
-    under-key : cryptedBatch c w64 (keySize (length key) .rounds) (scheduleOf w64 (keySize (length key) .nk) key) i
-        ≡ eachBlock w64 (λ slot. c (keyExpansion (keySize (length key) .nk) key)) (slots w64) i
-    unfolding cryptedBatch eachBlock
+    under-key : crypted c w64 (keySize (length key) .rounds) (scheduleOf w64 (keySize (length key) .nk) key) i
+        ≡ eachBlock w64 (λ slot. c (keyExpansion (keySize (length key) .nk) key)) (blocksIn i) i
+    unfolding eachBlock
     under-key = ap join (joined-same
         (λ j. c (reading w64 (keySize (length key) .rounds) (scheduleOf w64 (keySize (length key) .nk) key) (j % 4)) (sixteen i j))
-        (λ j. c (keyExpansion (keySize (length key) .nk) key) (sixteen i j)) 4 0
+        (λ j. c (keyExpansion (keySize (length key) .nk) key) (sixteen i j)) (blocksIn i) 0
         (λ j h. ap (λ (ks : List (List ℕ)). c ks (sixteen i j)) (reads (j % 4) (mod-lt j (lit< tt)))))
 
     -- in the direction d
     pub door-crypts : (d : ℕ) → directed d ≡ c → {n : ℕ} {s x : List ℕ} → n ≡ keySize (length key) .rounds
-        → s ≡ scheduleOf w64 (keySize (length key) .nk) key → x ≡ cryptedBatch c w64 n s i → x ≡ crypted d key i
+        → s ≡ scheduleOf w64 (keySize (length key) .nk) key → x ≡ crypted c w64 n s i → x ≡ underKey d key i
     unfolding keyWordsOf
     door-crypts d way {n} {s} {x} e f g = rw way (g ∙ rw (e, f) under-key)
 

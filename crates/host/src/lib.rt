@@ -6,9 +6,10 @@ ghost use lib.ListN.{length, replicate};
 ghost use Rattle.lanes.specs.Layout.{w32, w64};
 ghost use Rattle.outcome.specs.Outcome.{answers};
 ghost use Rattle.calls.specs.Calls.{expandOutcome, encryptOutcome, decryptOutcome, checkOutcome, doorOutcome};
-ghost use Rattle.host.specs.Door.{Ready, crypted};
+ghost use Rattle.host.specs.Door.{Ready, underKey};
 use aes::KeySize;
 use aes::key_size;
+use aes::whole_blocks;
 use aes::zero_key;
 
 // Room for the longest schedule. A call, so that a goal says its result and not 120 zeros.
@@ -45,17 +46,17 @@ fn crypt_with(
     output: &mut [u8],
 )
     requires { ⌜ Ready direction rounds (now key) (length (now schedule)) (length (now input)) (length (now output)) ⌝ }
-    ensures { λ r. ⌜ now (output .exit) ≡ crypted direction (now (key .entry)) (now (input .entry)) ⌝ }
+    ensures { λ r. ⌜ now (output .exit) ≡ underKey direction (now (key .entry)) (now (input .entry)) ⌝ }
 {
     schedule::w64::key_schedule(key, schedule);
     if direction == 0 {
-        cipher::w64::encrypt(schedule, rounds, input, output);
+        blocks::w64::encrypt(schedule, rounds, input, output);
         return;
     }
-    cipher::w64::decrypt(schedule, rounds, input, output);
+    blocks::w64::decrypt(schedule, rounds, input, output);
 }
 
-// The door: a key, one batch of four blocks and a direction, 0 to encrypt and 1 to decrypt. The schedule does not leave it, and is erased.
+// The door: a key, blocks and a direction, 0 to encrypt and 1 to decrypt. The schedule does not leave it, and is erased.
 #[no_mangle]
 pub extern "C" fn locker_aes(direction: u32, key: &[u8], input: &[u8], output: &mut [u8]) -> u32
     ensures { λ r. ⌜ answers r (now (output .exit)) ≡ doorOutcome direction (now (key .entry)) (now (input .entry)) (now (output .entry)) ⌝ }
@@ -67,10 +68,11 @@ pub extern "C" fn locker_aes(direction: u32, key: &[u8], input: &[u8], output: &
     if zeros {
         return 6;
     }
-    if input.len() != 64 {
+    let whole = whole_blocks(input.len());
+    if !whole {
         return 3;
     }
-    if output.len() != 64 {
+    if output.len() != input.len() {
         return 4;
     }
     if direction > 1 {

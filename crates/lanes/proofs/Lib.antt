@@ -12,3 +12,4 @@ pub mod Parts
 pub mod Sizes
 pub mod EqualParts
 pub mod EachBlock
+pub mod Cuts

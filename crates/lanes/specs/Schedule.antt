@@ -2,10 +2,10 @@
 -- key; and what blocks become under a schedule.
 use mathlib.Core.Bool.{cond}
 use mathlib.Core.List.{List, [], map}
-use Prim.Native.Nat.{ℕ, zero, suc, _+_, _*_, _%_}
+use Prim.Native.Nat.{ℕ, zero, suc, _+_, _*_, _/_, _%_}
 use lib.Bits.{bitXor}
 use lib.Dec.{eqb}
-use lib.ListN.{getD, take, drop}
+use lib.ListN.{getD, take, drop, length}
 use Rattle.fips197.specs.Aes.{range, sixteen, shiftRows, invShiftRows, roundsFor, keyExpansion, cipher, invCipher}
 use Rattle.lanes.specs.Layout.{Width, slots, slot, pack, eachSlot, join}
 
@@ -59,12 +59,30 @@ scheduleOf w nk key = join (map (λ r. pack w (eachSlot w (λ b. writeKey (round
 unfoldable pub eachBlock : Width → (ℕ → List ℕ → List ℕ) → ℕ → List ℕ → List ℕ
 eachBlock w f k i = join (map (λ j. f (j % slots w) (sixteen i j)) (range 0 k))
 
--- a full batch under n rounds of a schedule: each slot by its own round keys, through Cipher or InvCipher
+-- k blocks under n rounds of a schedule: block j by the round keys of slot j mod slots, through Cipher or InvCipher
+abbrev pub cryptedBlocks : (List (List ℕ) → List ℕ → List ℕ) → Width → ℕ → List ℕ → ℕ → List ℕ → List ℕ
+cryptedBlocks c w n l k i = eachBlock w (λ b. c (reading w n l b)) k i
+
+-- a full batch: one block for each slot
 unfoldable pub cryptedBatch : (List (List ℕ) → List ℕ → List ℕ) → Width → ℕ → List ℕ → List ℕ → List ℕ
-cryptedBatch c w n l i = eachBlock w (λ b. c (reading w n l b)) (slots w) i
+cryptedBatch c w n l i = cryptedBlocks c w n l (slots w) i
 
 abbrev pub encryptedBatch : Width → ℕ → List ℕ → List ℕ → List ℕ
 encryptedBatch = cryptedBatch cipher
 
 abbrev pub decryptedBatch : Width → ℕ → List ℕ → List ℕ → List ℕ
 decryptedBatch = cryptedBatch invCipher
+
+-- how many blocks some bytes are
+unfoldable pub blocksIn : List ℕ → ℕ
+blocksIn i = length i / 16
+
+-- every block of an input
+abbrev pub crypted : (List (List ℕ) → List ℕ → List ℕ) → Width → ℕ → List ℕ → List ℕ → List ℕ
+crypted c w n l i = cryptedBlocks c w n l (blocksIn i) i
+
+abbrev pub encrypted : Width → ℕ → List ℕ → List ℕ → List ℕ
+encrypted = crypted cipher
+
+abbrev pub decrypted : Width → ℕ → List ℕ → List ℕ → List ℕ
+decrypted = crypted invCipher

@@ -6,8 +6,8 @@ use crate::w32;
 use crate::w64;
 
 // So many bytes x. A call, so that a goal says its result and not every byte.
-pub fn bytes(x: u8) -> [u8; 66] {
-    [x; 66]
+pub fn bytes(x: u8) -> [u8; 65570] {
+    [x; 65570]
 }
 
 pub fn say_answer(number: u32, kept: bool, apart: bool) {
@@ -23,7 +23,7 @@ pub fn say_answer(number: u32, kept: bool, apart: bool) {
 
 // The buffer was the first n of these bytes, which were all 5a.
 fn say_bytes(number: u32, space: &[u8], n: usize)
-    requires { ⌜ (length (now space) ≡ 66) × (n ≤ 66) ⌝ }
+    requires { ⌜ (length (now space) ≡ 65570) × (n ≤ 65570) ⌝ }
 {
     let before = bytes(0x5a);
     let kept = check::same(&space[0..n], &before[0..n]);
@@ -61,7 +61,7 @@ fn crypt_in(
     input: usize,
     output: usize,
 ) -> u32
-    requires { ⌜ (output ≤ length (now space)) × (input ≤ 65) × (words ≤ 121) ⌝ }
+    requires { ⌜ (output ≤ length (now space)) × (input ≤ 65552) × (words ≤ 121) ⌝ }
 {
     if bits == 32 {
         w32::crypt(decrypts, words, input, &mut space[0..output])
@@ -71,7 +71,7 @@ fn crypt_in(
 }
 
 pub fn crypt(bits: usize, decrypts: bool, words: usize, input: usize, output: usize)
-    requires { ⌜ (output ≤ 65) × (input ≤ 65) × (words ≤ 121) ⌝ }
+    requires { ⌜ (output ≤ 65568) × (input ≤ 65552) × (words ≤ 121) ⌝ }
 {
     if decrypts {
         hex::say_count(b"decrypt", bits);
@@ -108,20 +108,20 @@ pub fn check_value(bits: usize, words: usize, output: usize)
 }
 
 fn door_in(space: &mut [u8], direction: u32, x: u8, key: usize, input: usize, output: usize) -> u32
-    requires { ⌜ (output ≤ length (now space)) × (input ≤ 65) × (key ≤ 40) ⌝ }
+    requires { ⌜ (output ≤ length (now space)) × (input ≤ 65552) × (key ≤ 40) ⌝ }
 {
     let key_bytes = bytes(x);
-    let batch = bytes(0x22);
+    let blocks = bytes(0x22);
     host::locker_aes(
         direction,
         &key_bytes[0..key],
-        &batch[0..input],
+        &blocks[0..input],
         &mut space[0..output],
     )
 }
 
 pub fn door(direction: u32, x: u8, key: usize, input: usize, output: usize)
-    requires { ⌜ (output ≤ 65) × (input ≤ 65) × (key ≤ 40) ⌝ }
+    requires { ⌜ (output ≤ 65568) × (input ≤ 65552) × (key ≤ 40) ⌝ }
 {
     hex::say_count(b"locker_aes direction ", direction as usize);
     say_key(x, key);

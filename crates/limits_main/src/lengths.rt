@@ -32,17 +32,47 @@ pub fn schedule(k: usize) -> usize
     }
 }
 
-// Around a batch of so many bytes.
-pub fn batch(k: usize, full: usize) -> usize
-    requires { ⌜ (1 ≤ full) × (full ≤ 64) ⌝ }
-    ensures { λ r. ⌜ r ≤ 65 ⌝ }
+// Blocks, and what is none.
+pub fn input(k: usize) -> usize
+    ensures { λ r. ⌜ r ≤ 65552 ⌝ }
 {
     match k {
         0 => 0,
         1 => 1,
-        2 => full - 1,
-        3 => full,
-        _ => full + 1,
+        2 => 15,
+        3 => 16,
+        4 => 17,
+        5 => 31,
+        6 => 32,
+        7 => 33,
+        8 => 47,
+        9 => 48,
+        10 => 63,
+        11 => 64,
+        12 => 65,
+        13 => 80,
+        14 => 65520,
+        15 => 65535,
+        16 => 65536,
+        17 => 65537,
+        _ => 65552,
+    }
+}
+
+// A block less than the input, as many bytes, and a block more.
+pub fn output(k: usize, input: usize) -> usize
+    requires { ⌜ input ≤ 65552 ⌝ }
+    ensures { λ r. ⌜ r ≤ 65568 ⌝ }
+{
+    match k {
+        0 => {
+            if input < 16 {
+                return 0;
+            }
+            input - 16
+        }
+        1 => input,
+        _ => input + 16,
     }
 }
 

@@ -5,8 +5,6 @@ mod lengths;
 mod w32;
 mod w64;
 
-ghost use Prim.Native.Nat.{_≤_};
-
 fn expands(bits: usize) {
     for i in 0..72 {
         calls::expand(bits, 0x11, lengths::key(i / 8), lengths::schedule(i % 8));
@@ -20,17 +18,11 @@ fn zeros_expand(bits: usize) {
     }
 }
 
-fn crypts(bits: usize, decrypts: bool)
-    requires { ⌜ (1 ≤ bits) × (bits ≤ 64) ⌝ }
-{
-    for i in 0..200 {
-        calls::crypt(
-            bits,
-            decrypts,
-            lengths::schedule(i / 25),
-            lengths::batch(i / 5 % 5, bits),
-            lengths::batch(i % 5, bits),
-        );
+fn crypts(bits: usize, decrypts: bool) {
+    for i in 0..456 {
+        let input = lengths::input(i / 3 % 19);
+        let output = lengths::output(i % 3, input);
+        calls::crypt(bits, decrypts, lengths::schedule(i / 57), input, output);
     }
 }
 
@@ -41,13 +33,15 @@ fn check_values(bits: usize) {
 }
 
 fn doors() {
-    for i in 0..900 {
+    for i in 0..2052 {
+        let input = lengths::input(i / 3 % 19);
+        let output = lengths::output(i % 3, input);
         calls::door(
-            lengths::direction(i / 225),
+            lengths::direction(i / 513),
             0x11,
-            lengths::key(i / 25 % 9),
-            lengths::batch(i / 5 % 5, 64),
-            lengths::batch(i % 5, 64),
+            lengths::key(i / 57 % 9),
+            input,
+            output,
         );
     }
 }
@@ -59,15 +53,13 @@ fn zeros_at_door() {
             lengths::direction(i / 4 % 2 * 2),
             0,
             i / 8,
-            lengths::batch(i / 2 % 2 + 2, 64),
-            lengths::batch(i % 2 + 3, 64),
+            i / 2 % 2 + 63,
+            i % 2 + 64,
         );
     }
 }
 
-fn at_width(bits: usize)
-    requires { ⌜ (1 ≤ bits) × (bits ≤ 64) ⌝ }
-{
+fn at_width(bits: usize) {
     expands(bits);
     zeros_expand(bits);
     crypts(bits, false);

@@ -32,14 +32,14 @@ pub fn expand(x: u8, key: usize, words: usize)
 }
 
 pub fn crypt(decrypts: bool, words: usize, input: usize, output: &mut [u8]) -> u32
-    requires { ⌜ (input ≤ 65) × (words ≤ 121) ⌝ }
+    requires { ⌜ (input ≤ 65552) × (words ≤ 121) ⌝ }
 {
     let schedule = filled();
-    let batch = super::calls::bytes(0x22);
+    let blocks = super::calls::bytes(0x22);
     if decrypts {
-        public::decrypt(&schedule[0..words], &batch[0..input], output)
+        public::decrypt(&schedule[0..words], &blocks[0..input], output)
     } else {
-        public::encrypt(&schedule[0..words], &batch[0..input], output)
+        public::encrypt(&schedule[0..words], &blocks[0..input], output)
     }
 }
 

@@ -26,6 +26,19 @@ pub record Can (C : Call) (a : C .Args) (o : List ℕ) : Type 0 where
   pub fits : C .Fits a o
   pub good : C .Good a o
 
+-- the same call where only some arguments come to be lent: a program that is wrong on these is wrong, however right it is on all others
+abbrev pub among : (C : Call) → (C .Args → Type 0) → Call
+among C S = record {
+  Args = C .Args;
+  Fits = λ a o. C .Fits a o × S a;
+  Good = C .Good;
+  promise = C .promise;
+  result = C .result;
+  taken = C .taken;
+  only = C .only;
+  keeping = C .keeping;
+}
+
 -- such a call was made, and x is what the buffer then holds
 pub record Made (C : Call) (a : C .Args) (x : List ℕ) : Type 0 where
   pub buffer : List ℕ
@@ -81,10 +94,14 @@ module _ (C : Call) where
   agreed : {P : Program} → Meets P → {a : C .Args} {o : List ℕ} → Can C a o → P a o ≡ answers 0 (C .result a)
   agreed m {a} {o} can = m a o can ∙ C .taken a o (can .good)
 
+  -- one that somewhere refuses
+  pub refuses-one : {a : C .Args} {o : List ℕ} → Can C a o → (P : Program) {n : ℕ} {x : List ℕ} → P a o ≡ answers n x → (n ≡ 0 → ⊥) → Refuted P
+  refuses-one can P e h m = h (same-number (sym e ∙ agreed m can))
+
   -- one that refuses everything, with whatever numbers
   pub refuses-everything : {a : C .Args} {o : List ℕ} → Can C a o
       → (number : C .Args → List ℕ → ℕ) → ((a : C .Args) (o : List ℕ) → number a o ≡ 0 → ⊥) → Refuted (λ a o. answers (number a o) o)
-  refuses-everything {a} {o} can number h m = h a o (same-number (agreed m can))
+  refuses-everything {a} {o} can number h = refuses-one can (λ a o. answers (number a o) o) refl (h a o)
 
   -- one that somewhere answers 0 and writes what is not the result
   pub answers-another : {a : C .Args} {o : List ℕ} → Can C a o → (P : Program) {x : List ℕ} → P a o ≡ answers 0 x → (x ≡ C .result a → ⊥) → Refuted P

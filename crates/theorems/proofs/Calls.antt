@@ -2,20 +2,21 @@
 use mathlib.Core.Path.{_≡_}
 use mathlib.Core.Bool.{not, _||_}
 use mathlib.Core.List.{List}
-use Prim.Native.Nat.{ℕ, _*_, _≤_}
+use Prim.Native.Nat.{ℕ, _≤_}
 use native.Mathlib.Omega.{arith}
 use lib.Dec.{eqb}
 use lib.ListN.{length}
 use Rattle.fips197.specs.Bytes.{Fit}
 use Rattle.fips197.specs.Aes.{keyExpansion, cipher, invCipher}
-use Rattle.lanes.specs.Layout.{Width, w64, bits, slots}
-use Rattle.lanes.specs.Schedule.{scheduleOf, eachBlock, cryptedBatch}
+use Rattle.lanes.specs.Layout.{Width, w64, bits}
+use Rattle.lanes.specs.Schedule.{scheduleOf, eachBlock, blocksIn, crypted}
 use Rattle.outcome.specs.Outcome.{answers}
 use Rattle.outcome.proofs.Laws.{Keeps, is-not, agrees, was-not, agreed, passed, refusal-keeps, answer-keeps}
-use Rattle.calls.specs.Calls.{keyWordsOf, zeroKey, Taken, scheduleWords, roundsOf, keysOf, expandOutcome, cryptOutcome, checkValue, checkOutcome}
-use Rattle.calls.specs.Calls.{directed, doorOutcome}
+use Rattle.calls.specs.Calls.{keyWordsOf, zeroKey, Taken, scheduleWords, roundsOf, keysOf, wholeBlocks, TakenBlocks, expandOutcome}
+use Rattle.calls.specs.Calls.{cryptOutcome, checkValue, checkOutcome, directed, doorOutcome}
 use Rattle.calls.proofs.Directions.{one-of, was-one-of}
 use Rattle.calls.proofs.ZeroKey.{key-passed}
+use Rattle.calls.proofs.WholeBlocks.{blocks-passed}
 use Rattle.theorems.proofs.Call.{Call}
 
 -- ---- expand: a key that is not all zeros, and room for its schedule
@@ -58,15 +59,14 @@ expandCall w = record {
   keeping = expand-keeping w;
 }
 
--- ---- encrypt and decrypt: any words of the right number as a schedule, and full batches
+-- ---- encrypt and decrypt: any words of the right number as a schedule, blocks, and room for as many
 pub record CryptArgs : Type 0 where
   pub schedule : List ℕ
   pub input : List ℕ
 
-pub record CryptGood (w : Width) (a : CryptArgs) (output : List ℕ) : Type 0 where
+pub record CryptGood (a : CryptArgs) (output : List ℕ) : Type 0 where
   pub scheduled : roundsOf (a .schedule) ≡ 0 → ⊥
-  pub full-input : length (a .input) ≡ 16 * slots w
-  pub full-output : length output ≡ 16 * slots w
+  pub blocks : TakenBlocks (a .input) output
 
 pub record CryptFits (w : Width) (a : CryptArgs) (output : List ℕ) : Type 0 where
   pub schedule-words : Fit (bits w) (a .schedule)
@@ -74,37 +74,32 @@ pub record CryptFits (w : Width) (a : CryptArgs) (output : List ℕ) : Type 0 wh
   pub buffer-bytes : Fit 8 output
 
 abbrev pub cryptResult : (List (List ℕ) → List ℕ → List ℕ) → Width → CryptArgs → List ℕ
-cryptResult c w a = cryptedBatch c w (roundsOf (a .schedule)) (keysOf (a .schedule)) (a .input)
+cryptResult c w a = crypted c w (roundsOf (a .schedule)) (keysOf (a .schedule)) (a .input)
 
 module _ (c : List (List ℕ) → List ℕ → List ℕ) (w : Width) (a : CryptArgs) (o : List ℕ) where
-  pub crypt-taken : CryptGood w a o → cryptOutcome c w (a .schedule) (a .input) o ≡ answers 0 (cryptResult c w a)
+  pub crypt-taken : CryptGood a o → cryptOutcome c w (a .schedule) (a .input) o ≡ answers 0 (cryptResult c w a)
   unfolding cryptOutcome
-  crypt-taken g = rw (is-not (g .scheduled), agrees (g .full-input), agrees (g .full-output))
+  crypt-taken g = rw (is-not (g .scheduled), g .blocks .whole, agrees (g .blocks .room))
 
   pub crypt-keeping : Keeps o (cryptOutcome c w (a .schedule) (a .input) o)
   unfolding cryptOutcome
   crypt-keeping =
       refusal-keeps (eqb (roundsOf (a .schedule)) 0) 2 o
-      (refusal-keeps (not (eqb (length (a .input)) (16 * slots w))) 3 o
-      (refusal-keeps (not (eqb (length o) (16 * slots w))) 4 o (answer-keeps o (cryptResult c w a))))
+      (refusal-keeps (not (wholeBlocks (length (a .input)))) 3 o
+      (refusal-keeps (not (eqb (length o) (length (a .input)))) 4 o (answer-keeps o (cryptResult c w a))))
 
-  pub crypt-only : (x : List ℕ) → answers 0 x ≡ cryptOutcome c w (a .schedule) (a .input) o → CryptGood w a o
+  pub crypt-only : (x : List ℕ) → answers 0 x ≡ cryptOutcome c w (a .schedule) (a .input) o → CryptGood a o
   unfolding cryptOutcome
   crypt-only x e =
       let p = passed (eqb (roundsOf (a .schedule)) 0) 2 o (λ z. omega arith) e in
-      let q = passed (not (eqb (length (a .input)) (16 * slots w))) 3 o (λ z. omega arith) (p .1) in
-      let r = passed (not (eqb (length o) (16 * slots w))) 4 o (λ z. omega arith) (q .1) in
-      record {
-        scheduled = was-not (p .0);
-        full-input = agreed (length (a .input)) (16 * slots w) (q .0);
-        full-output = agreed (length o) (16 * slots w) (r .0);
-      }
+      let q = blocks-passed (a .input) o o (p .1) in
+      record { scheduled = was-not (p .0); blocks = q .0 }
 
 abbrev pub cryptCall : (List (List ℕ) → List ℕ → List ℕ) → Width → Call
 cryptCall c w = record {
   Args = CryptArgs;
   Fits = CryptFits w;
-  Good = CryptGood w;
+  Good = CryptGood;
   promise = λ a. cryptOutcome c w (a .schedule) (a .input);
   result = cryptResult c w;
   taken = crypt-taken c w;
@@ -155,15 +150,14 @@ checkCall w = record {
   keeping = check-keeping w;
 }
 
--- ---- the door, in one direction: a key that is not all zeros, and full batches
+-- ---- the door, in one direction: a key that is not all zeros, blocks, and room for as many
 pub record DoorArgs : Type 0 where
   pub key : List ℕ
   pub input : List ℕ
 
 pub record DoorGood (d : ℕ) (a : DoorArgs) (output : List ℕ) : Type 0 where
   pub taken : Taken (a .key)
-  pub full-input : length (a .input) ≡ 16 * slots w64
-  pub full-output : length output ≡ 16 * slots w64
+  pub blocks : TakenBlocks (a .input) output
   pub direction : d ≤ 1
 
 pub record DoorFits (a : DoorArgs) (output : List ℕ) : Type 0 where
@@ -172,35 +166,29 @@ pub record DoorFits (a : DoorArgs) (output : List ℕ) : Type 0 where
   pub buffer-bytes : Fit 8 output
 
 abbrev pub doorResult : ℕ → DoorArgs → List ℕ
-doorResult d a = eachBlock w64 (λ slot. directed d (keyExpansion (keyWordsOf (a .key)) (a .key))) (slots w64) (a .input)
+doorResult d a = eachBlock w64 (λ slot. directed d (keyExpansion (keyWordsOf (a .key)) (a .key))) (blocksIn (a .input)) (a .input)
 
 module _ (d : ℕ) (a : DoorArgs) (o : List ℕ) where
   pub door-taken : DoorGood d a o → doorOutcome d (a .key) (a .input) o ≡ answers 0 (doorResult d a)
   unfolding doorOutcome
-  door-taken g = let k = g .taken in rw (is-not (k .right-length), k .not-zero, agrees (g .full-input), agrees (g .full-output), one-of d (g .direction))
+  door-taken g = let k = g .taken in rw (is-not (k .right-length), k .not-zero, g .blocks .whole, agrees (g .blocks .room), one-of d (g .direction))
 
   pub door-keeping : Keeps o (doorOutcome d (a .key) (a .input) o)
   unfolding doorOutcome
   door-keeping =
       refusal-keeps (eqb (keyWordsOf (a .key)) 0) 1 o
       (refusal-keeps (zeroKey (a .key)) 6 o
-      (refusal-keeps (not (eqb (length (a .input)) (16 * slots w64))) 3 o
-      (refusal-keeps (not (eqb (length o) (16 * slots w64))) 4 o
+      (refusal-keeps (not (wholeBlocks (length (a .input)))) 3 o
+      (refusal-keeps (not (eqb (length o) (length (a .input)))) 4 o
       (refusal-keeps (not (eqb d 0 || eqb d 1)) 5 o (answer-keeps o (doorResult d a))))))
 
   pub door-only : (x : List ℕ) → answers 0 x ≡ doorOutcome d (a .key) (a .input) o → DoorGood d a o
   unfolding doorOutcome
   door-only x e =
       let p = key-passed (a .key) o e in
-      let q = passed (not (eqb (length (a .input)) (16 * slots w64))) 3 o (λ z. omega arith) (p .1) in
-      let r = passed (not (eqb (length o) (16 * slots w64))) 4 o (λ z. omega arith) (q .1) in
-      let t = passed (not (eqb d 0 || eqb d 1)) 5 o (λ z. omega arith) (r .1) in
-      record {
-        taken = p .0;
-        full-input = agreed (length (a .input)) (16 * slots w64) (q .0);
-        full-output = agreed (length o) (16 * slots w64) (r .0);
-        direction = was-one-of d (t .0);
-      }
+      let q = blocks-passed (a .input) o o (p .1) in
+      let t = passed (not (eqb d 0 || eqb d 1)) 5 o (λ z. omega arith) (q .1) in
+      record { taken = p .0; blocks = q .0; direction = was-one-of d (t .0) }
 
 abbrev pub doorCall : ℕ → Call
 doorCall d = record {

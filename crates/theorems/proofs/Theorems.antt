@@ -4,11 +4,13 @@
 -- `refusal-changes-nothing` of Call.antt, for every call. Assumes nothing.
 use mathlib.Core.Path.{_≡_, refl, sym, _∙_, ap, ap₂}
 use mathlib.Core.Bool.{true}
-use mathlib.Core.List.{List}
-use Prim.Native.Nat.{ℕ, zero, suc, _+_, _*_, _≤_, _<_}
+use mathlib.Core.List.{List, _++_}
+use Prim.Native.Nat.{ℕ, zero, suc, _+_, _*_, _%_, _≤_, _<_}
+use native.Mathlib.Nat.{mod-lt, mod-eq-of-lt}
 use native.Mathlib.Omega.{arith}
 use lib.Dec.{lit≤}
-use lib.ListN.{length, take, replicate, length-replicate, length-map}
+use lib.ListN.{length, take, replicate, length-replicate, length-map, length-append}
+use lib.Seq.{drop-at}
 use Rattle.fips197.specs.Bytes.{Fit, Block, Data}
 use Rattle.fips197.specs.Aes.{range, sixteen, cipher, invCipher, keyWords, keyExpansion, roundsFor}
 use Rattle.fips197.proofs.Ciphers.{Blocks}
@@ -17,15 +19,18 @@ use Rattle.sp800_38b.specs.Cmac.{zeros, double}
 use Rattle.sp800_38b.proofs.Laws.{tag-of-zeros}
 use Rattle.lanes.specs.Layout.{Width, w64, bits, slots}
 use Rattle.lanes.specs.Sizes.{keySize, scheduleSize}
-use Rattle.lanes.specs.Schedule.{reading, scheduleOf, eachBlock, cryptedBatch}
+use Rattle.lanes.specs.Schedule.{reading, scheduleOf, eachBlock, cryptedBlocks, blocksIn, crypted, encrypted, decrypted}
 use Rattle.lanes.proofs.Sizes.{Found, key-found}
 use Rattle.lanes.proofs.EachBlock.{Keeping, some-slot, block-of, each-at, each-data, each-undone}
+use Rattle.lanes.proofs.Cuts.{blocks-are, each-front, each-cut, alike-cut}
 use Rattle.schedule.proofs.Reading.{schedule-length, schedule-fits, schedule-reads, schedule-only, schedule-one}
-use Rattle.cipher.proofs.Batches.{Way, forth, backwards, crypted-slot, crypted-data, crypted-undone, crypted-one}
+use Rattle.cipher.proofs.Batches.{Way, forth, backwards, crypted-at, crypted-data, crypted-undone, crypted-one}
 use Rattle.outcome.specs.Outcome.{answers}
 use Rattle.outcome.proofs.Laws.{settled}
-use Rattle.calls.specs.Calls.{keyWordsOf, zeroKey, Taken, scheduleWords, roundsOf, keysOf, keysIn, expandOutcome, checkOf, checkValue, directed, doorOutcome}
+use Rattle.calls.specs.Calls.{keyWordsOf, zeroKey, Taken, scheduleWords, roundsOf, keysOf, keysIn, wholeBlocks, expandOutcome, checkOf, checkValue}
+use Rattle.calls.specs.Calls.{directed, doorOutcome}
 use Rattle.calls.proofs.ZeroKey.{no-zeros, expand-6, door-6}
+use Rattle.calls.proofs.WholeBlocks.{whole-are}
 use Rattle.theorems.proofs.Call.{Made, leaves, can-make}
 use Rattle.theorems.proofs.Calls.{expandCall, cryptCall}
 use Rattle.theorems.proofs.Calls.{checkCall, doorCall}
@@ -140,11 +145,24 @@ expand-key m = record { taken = m .can .good .taken; bytes = m .can .fits .key-b
 pub expand-makes-no-zero-schedule : {w : Width} {key x : List ℕ} → Expands w key x → (n b : ℕ) → b < slots w → keysIn w x b ≡ zeroRoundKeys n → ⊥
 expand-makes-no-zero-schedule m n b h e = key-is-not-zeros (expand-key m) n (sym (expand-reads m b h) ∙ e)
 
--- ---- demand 3: for ANY words of the right number as a schedule, and any full batch
-abbrev pub Batch : Width → List ℕ → Type 0
-Batch w i = Data (slots w) i
+-- ---- demand 3: for ANY words of the right number as a schedule, and any blocks, 1 to 4,096 of them
+pub record Message (i : List ℕ) : Type 0 where
+  pub taken : wholeBlocks (length i) ≡ true
+  pub bytes : Fit 8 i
 
--- what was called in the direction v under the schedule s with the batch i left x
+-- they are as many blocks as there are
+pub message-data : {i : List ℕ} → Message i → Data (blocksIn i) i
+unfolding blocksIn
+message-data {i} m = record { long = whole-are (length i) (m .taken) .blocks; bytes = m .bytes }
+
+-- and as many others are taken too
+same-count : {k : ℕ} {i x : List ℕ} → Data k i → Data k x → length x ≡ length i
+same-count d e = e .long ∙ sym (d .long)
+
+as-many : {k : ℕ} {i x : List ℕ} → Message i → Data k i → Data k x → Message x
+as-many m d e = record { taken = rw (same-count d e) (m .taken); bytes = e .bytes }
+
+-- what was called in the direction v under the schedule s with the blocks i left x
 abbrev pub Crypts : Way → Width → List ℕ → List ℕ → List ℕ → Type 0
 Crypts v w s i x = Made (cryptCall (v .go) w) (record { schedule = s; input = i }) x
 
@@ -170,95 +188,153 @@ module _ (v : Way) {w : Width} {s : List ℕ} where
   crypt-schedule : {i x : List ℕ} → Crypts v w s i x → Schedule w s
   crypt-schedule m = record { right-length = m .can .good .scheduled; words = m .can .fits .schedule-words }
 
-  crypt-input : {i x : List ℕ} → Crypts v w s i x → Batch w i
-  crypt-input m = record { long = m .can .good .full-input; bytes = m .can .fits .input-bytes }
+  crypt-input : {i x : List ℕ} → Crypts v w s i x → Message i
+  crypt-input m = record { taken = m .can .good .blocks .whole; bytes = m .can .fits .input-bytes }
 
-  crypt-left : {i x : List ℕ} → Crypts v w s i x → x ≡ cryptedBatch (v .go) w (roundsOf s) (keysOf s) i
+  crypt-data : {i x : List ℕ} → Crypts v w s i x → Data (blocksIn i) i
+  crypt-data m = message-data (crypt-input m)
+
+  crypt-left : {i x : List ℕ} → Crypts v w s i x → x ≡ crypted (v .go) w (roundsOf s) (keysOf s) i
   crypt-left m = leaves (cryptCall (v .go) w) m
 
-  crypt-output : {i x : List ℕ} → Crypts v w s i x → Batch w x
-  crypt-output m = rw (crypt-left m) (crypted-data v w (roundsOf s) (keysOf s) (crypt-input m))
+  crypt-output : {i x : List ℕ} → Crypts v w s i x → Data (blocksIn i) x
+  crypt-output m = rw (crypt-left m) (crypted-data v w (roundsOf s) (keysOf s) (crypt-data m))
 
-  pub crypt-is : {i x : List ℕ} → Crypts v w s i x → (b : ℕ) → b < slots w → sixteen x b ≡ v .go (keysIn w s b) (sixteen i b)
-  crypt-is m b h = ap (λ (l : List ℕ). sixteen l b) (crypt-left m) ∙ crypted-slot v w (roundsOf s) (keysOf s) (crypt-input m) b h
+  crypt-message : {i x : List ℕ} → Crypts v w s i x → Message x
+  crypt-message m = as-many (crypt-input m) (crypt-data m) (crypt-output m)
+
+  pub crypt-is : {i x : List ℕ} → Crypts v w s i x → (j : ℕ) → j < blocksIn i → sixteen x j ≡ v .go (keysIn w s (j % slots w)) (sixteen i j)
+  crypt-is m j h = ap (λ (l : List ℕ). sixteen l j) (crypt-left m) ∙ crypted-at v w (roundsOf s) (keysOf s) (crypt-data m) j h
+
+  -- as many blocks are left as were given
+  crypt-count : {i x : List ℕ} → Crypts v w s i x → blocksIn x ≡ blocksIn i
+  crypt-count {i} {x} m = blocks-are (blocksIn i) x (crypt-output m .long)
 
   crypt-one : {i j x : List ℕ} → Crypts v w s i x → Crypts v w s j x → i ≡ j
-  crypt-one m n = crypted-one v w (roundsOf s) (keysOf s) (crypt-input m) (crypt-input n) (sym (crypt-left m) ∙ crypt-left n)
+  crypt-one {i} {j} m n =
+      let k : blocksIn j ≡ blocksIn i = sym (crypt-count n) ∙ crypt-count m in
+      let d : Data (blocksIn j) j = crypt-data n in
+      let e : Data (blocksIn i) j = rw k at d in
+      crypted-one v w (roundsOf s) (keysOf s) (crypt-data m) e
+      (sym (crypt-left m) ∙ crypt-left n ∙ ap (λ (k : ℕ). cryptedBlocks (v .go) w (roundsOf s) (keysOf s) k j) k)
 
-  -- a call in this direction on a batch, if it comes to be made, leaves this
-  crypt-can : {i : List ℕ} → Schedule w s → Batch w i → Crypts v w s i (cryptedBatch (v .go) w (roundsOf s) (keysOf s) i)
+  -- the call back, on what was left
+  crypt-undone : {i x y : List ℕ} → Crypts v w s i x → y ≡ crypted (v .back) w (roundsOf s) (keysOf s) x → y ≡ i
+  crypt-undone {x = x} m e =
+      e ∙ ap₂ (cryptedBlocks (v .back) w (roundsOf s) (keysOf s)) (crypt-count m) (crypt-left m)
+      ∙ crypted-undone v w (roundsOf s) (keysOf s) (crypt-data m)
+
+  -- cut after m full batches
+  crypt-cut : {i j x y z : List ℕ} (m : ℕ) → length i ≡ 16 * (slots w * m) → Crypts v w s i y → Crypts v w s j z → Crypts v w s (i ++ j) x → x ≡ y ++ z
+  crypt-cut {i} {j} m e a b c =
+      let f : ℕ → List ℕ → List ℕ = λ r. v .go (keysIn w s r) in
+      let n : blocksIn i ≡ slots w * m = blocks-are (slots w * m) i e in
+      let l : length (i ++ j) ≡ 16 * (slots w * m + blocksIn j) = length-append i j ∙ omega (arith, e, crypt-data b .long) in
+      crypt-left c
+      ∙ ap (λ (k : ℕ). eachBlock w f k (i ++ j)) (blocks-are (slots w * m + blocksIn j) (i ++ j) l)
+      ∙ each-cut w f m (blocksIn j) (i ++ j)
+      ∙ ap₂ _++_
+      (each-front w f (slots w * m) i j (omega (arith, e)) ∙ ap (λ (k : ℕ). eachBlock w f k i) (sym n) ∙ sym (crypt-left a))
+      (ap (eachBlock w f (blocksIn j)) (drop-at i j (16 * (slots w * m)) e) ∙ sym (crypt-left b))
+
+  -- a call in this direction on blocks, if it comes to be made, leaves this
+  crypt-can : {i : List ℕ} → Schedule w s → Message i → Crypts v w s i (crypted (v .go) w (roundsOf s) (keysOf s) i)
   crypt-can {i} p d =
       can-make (cryptCall (v .go) w) {o = i}
       (record {
         fits = record { schedule-words = p .words; input-bytes = d .bytes; buffer-bytes = d .bytes };
-        good = record { scheduled = p .right-length; full-input = d .long; full-output = d .long };
+        good = record { scheduled = p .right-length; blocks = record { whole = d .taken; room = refl } };
       }) refl
 
 module _ {w : Width} {s : List ℕ} where
-  -- slot b is FIPS-197's Cipher of block b under the round keys that slot b has
-  pub encrypt-is-cipher : {i x : List ℕ} → Encrypts w s i x → (b : ℕ) → b < slots w → sixteen x b ≡ cipher (keysIn w s b) (sixteen i b)
+  -- block j is FIPS-197's Cipher of block j under the round keys of slot j mod slots
+  pub encrypt-is-cipher : {i x : List ℕ} → Encrypts w s i x → (j : ℕ) → j < blocksIn i → sixteen x j ≡ cipher (keysIn w s (j % slots w)) (sixteen i j)
   encrypt-is-cipher m = crypt-is forth m
 
   -- and FIPS-197's InvCipher
-  pub decrypt-is-invCipher : {i x : List ℕ} → Decrypts w s i x → (b : ℕ) → b < slots w → sixteen x b ≡ invCipher (keysIn w s b) (sixteen i b)
+  pub decrypt-is-invCipher : {i x : List ℕ} → Decrypts w s i x → (j : ℕ) → j < blocksIn i → sixteen x j ≡ invCipher (keysIn w s (j % slots w)) (sixteen i j)
   decrypt-is-invCipher m = crypt-is backwards m
 
-  -- a batch is answered by a batch
-  pub encrypt-batch : {i x : List ℕ} → Encrypts w s i x → Batch w x
-  encrypt-batch m = crypt-output forth m
+  -- blocks are answered by as many blocks
+  pub encrypt-blocks : {i x : List ℕ} → Encrypts w s i x → Data (blocksIn i) x
+  encrypt-blocks m = crypt-output forth m
 
-  pub decrypt-batch : {i x : List ℕ} → Decrypts w s i x → Batch w x
-  decrypt-batch m = crypt-output backwards m
+  pub decrypt-blocks : {i x : List ℕ} → Decrypts w s i x → Data (blocksIn i) x
+  decrypt-blocks m = crypt-output backwards m
+
+  -- by as many bytes, which a call takes again
+  pub encrypt-length : {i x : List ℕ} → Encrypts w s i x → length x ≡ length i
+  encrypt-length m = same-count (crypt-data forth m) (crypt-output forth m)
+
+  pub encrypt-message : {i x : List ℕ} → Encrypts w s i x → Message x
+  encrypt-message m = crypt-message forth m
 
   -- decryption undoes encryption, and encryption decryption
   pub decrypt-undoes-encrypt : {i x y : List ℕ} → Encrypts w s i x → Decrypts w s x y → y ≡ i
-  decrypt-undoes-encrypt m n =
-      crypt-left backwards n ∙ ap (cryptedBatch invCipher w (roundsOf s) (keysOf s)) (crypt-left forth m)
-      ∙ crypted-undone forth w (roundsOf s) (keysOf s) (crypt-input forth m)
+  decrypt-undoes-encrypt m n = crypt-undone forth m (crypt-left backwards n)
 
   pub encrypt-undoes-decrypt : {i x y : List ℕ} → Decrypts w s i x → Encrypts w s x y → y ≡ i
-  encrypt-undoes-decrypt m n =
-      crypt-left forth n ∙ ap (cryptedBatch cipher w (roundsOf s) (keysOf s)) (crypt-left backwards m)
-      ∙ crypted-undone backwards w (roundsOf s) (keysOf s) (crypt-input backwards m)
+  encrypt-undoes-decrypt m n = crypt-undone backwards m (crypt-left forth n)
 
-  -- one-to-one: no two different batches encrypt alike
+  -- one-to-one: no two different inputs encrypt alike
   pub encrypt-one-to-one : {i j x : List ℕ} → Encrypts w s i x → Encrypts w s j x → i ≡ j
   encrypt-one-to-one m n = crypt-one forth m n
 
-  -- what decryption answers is the one batch that encrypts to what it was given
+  -- what decryption answers is the one input that encrypts to what it was given
   pub decrypt-finds : {x y : List ℕ} → Decrypts w s x y → Encrypts w s y x × ((j : List ℕ) → Encrypts w s j x → j ≡ y)
   decrypt-finds {x} {y} m =
-      let found : Encrypts w s y (cryptedBatch cipher w (roundsOf s) (keysOf s) y) = crypt-can forth (crypt-schedule backwards m) (crypt-output backwards m) in
-      let e : cryptedBatch cipher w (roundsOf s) (keysOf s) y ≡ x = encrypt-undoes-decrypt m found in
+      let found : Encrypts w s y (encrypted w (roundsOf s) (keysOf s) y) = crypt-can forth (crypt-schedule backwards m) (crypt-message backwards m) in
+      let e : encrypted w (roundsOf s) (keysOf s) y ≡ x = encrypt-undoes-decrypt m found in
       let finds : Encrypts w s y x = rw e at found in
       (finds, λ j n. encrypt-one-to-one n finds)
 
-  -- onto: every batch is the encryption of exactly one batch
-  pub encrypt-onto : {x : List ℕ} → Schedule w s → Batch w x → (i : List ℕ) × Encrypts w s i x × ((j : List ℕ) → Encrypts w s j x → j ≡ i)
+  -- onto: every string of blocks is the encryption of exactly one
+  pub encrypt-onto : {x : List ℕ} → Schedule w s → Message x → (i : List ℕ) × Encrypts w s i x × ((j : List ℕ) → Encrypts w s j x → j ≡ i)
   encrypt-onto {x} p d =
       let found = decrypt-finds (crypt-can backwards p d) in
-      (cryptedBatch invCipher w (roundsOf s) (keysOf s) x, found .0, found .1)
+      (decrypted w (roundsOf s) (keysOf s) x, found .0, found .1)
 
--- SLOTS ARE APART: what slot b holds afterwards changes neither with another slot's block nor with another slot's round keys. It is what the
--- purge job relies on: a header is decrypted as if it were alone
-module _ {w : Width} {s t i j x y : List ℕ} (b : ℕ) (h : b < slots w) where
-  pub encrypt-slots-apart : Encrypts w s i x → Encrypts w t j y → keysIn w s b ≡ keysIn w t b → sixteen i b ≡ sixteen j b → sixteen x b ≡ sixteen y b
-  encrypt-slots-apart m n p q = encrypt-is-cipher m b h ∙ ap₂ cipher p q ∙ sym (encrypt-is-cipher n b h)
+  -- cut after full batches: the answers joined are the answer
+  pub encrypt-cut : {i j x y z : List ℕ} (m : ℕ) → length i ≡ 16 * (slots w * m) → Encrypts w s i y → Encrypts w s j z → Encrypts w s (i ++ j) x → x ≡ y ++ z
+  encrypt-cut m e = crypt-cut forth m e
 
-  pub decrypt-slots-apart : Decrypts w s i x → Decrypts w t j y → keysIn w s b ≡ keysIn w t b → sixteen i b ≡ sixteen j b → sixteen x b ≡ sixteen y b
-  decrypt-slots-apart m n p q = decrypt-is-invCipher m b h ∙ ap₂ invCipher p q ∙ sym (decrypt-is-invCipher n b h)
+  pub decrypt-cut : {i j x y z : List ℕ} (m : ℕ) → length i ≡ 16 * (slots w * m) → Decrypts w s i y → Decrypts w s j z → Decrypts w s (i ++ j) x → x ≡ y ++ z
+  decrypt-cut m e = crypt-cut backwards m e
 
--- ---- both demands together: under an expanded key, FIPS-197 with that key, in every slot
+-- BLOCKS ARE APART: what block j becomes changes neither with another block, nor with how many there are, nor with another slot's round keys. It is what
+-- the purge job relies on: a header is decrypted as if it were alone
+module _ {w : Width} {s t i k x y : List ℕ} (j : ℕ) (h : j < blocksIn i) (l : j < blocksIn k) where
+  pub encrypt-blocks-apart : Encrypts w s i x → Encrypts w t k y → keysIn w s (j % slots w) ≡ keysIn w t (j % slots w) → sixteen i j ≡ sixteen k j
+      → sixteen x j ≡ sixteen y j
+  encrypt-blocks-apart m n p q = encrypt-is-cipher m j h ∙ ap₂ cipher p q ∙ sym (encrypt-is-cipher n j l)
+
+  pub decrypt-blocks-apart : Decrypts w s i x → Decrypts w t k y → keysIn w s (j % slots w) ≡ keysIn w t (j % slots w) → sixteen i j ≡ sixteen k j
+      → sixteen x j ≡ sixteen y j
+  decrypt-blocks-apart m n p q = decrypt-is-invCipher m j h ∙ ap₂ invCipher p q ∙ sym (decrypt-is-invCipher n j l)
+
+-- ---- both demands together: under an expanded key, FIPS-197 with that key, in every block
+reads-at : {w : Width} {key s : List ℕ} → Expands w key s → (j : ℕ) → keysIn w s (j % slots w) ≡ roundKeys key
+reads-at {w} e j = expand-reads e (j % slots w) (mod-lt j (some-slot w))
+
 module _ {w : Width} {key s i x : List ℕ} (e : Expands w key s) where
-  pub encrypt-under-key : Encrypts w s i x → (b : ℕ) → b < slots w → sixteen x b ≡ cipher (keyExpansion (keyWordsOf key) key) (sixteen i b)
-  encrypt-under-key m b h = encrypt-is-cipher m b h ∙ ap (λ (ks : List (List ℕ)). cipher ks (sixteen i b)) (expand-reads e b h)
+  pub encrypt-under-key : Encrypts w s i x → (j : ℕ) → j < blocksIn i → sixteen x j ≡ cipher (roundKeys key) (sixteen i j)
+  encrypt-under-key m j h = encrypt-is-cipher m j h ∙ ap (λ (ks : List (List ℕ)). cipher ks (sixteen i j)) (reads-at e j)
 
-  pub decrypt-under-key : Decrypts w s i x → (b : ℕ) → b < slots w → sixteen x b ≡ invCipher (keyExpansion (keyWordsOf key) key) (sixteen i b)
-  decrypt-under-key m b h = decrypt-is-invCipher m b h ∙ ap (λ (ks : List (List ℕ)). invCipher ks (sixteen i b)) (expand-reads e b h)
+  pub decrypt-under-key : Decrypts w s i x → (j : ℕ) → j < blocksIn i → sixteen x j ≡ invCipher (roundKeys key) (sixteen i j)
+  decrypt-under-key m j h = decrypt-is-invCipher m j h ∙ ap (λ (ks : List (List ℕ)). invCipher ks (sixteen i j)) (reads-at e j)
 
 -- ---- the key check value
 abbrev pub Checks : Width → List ℕ → List ℕ → Type 0
 Checks w s x = Made (checkCall w) s x
+
+-- there is a block 0, and it is in slot 0
+some-block : {i : List ℕ} → Message i → 0 < blocksIn i
+unfolding blocksIn
+some-block {i} m = whole-are (length i) (m .taken) .some
+
+encrypt-first : {w : Width} {s i x : List ℕ} → Encrypts w s i x → sixteen x 0 ≡ cipher (keysIn w s 0) (sixteen i 0)
+encrypt-first {w} {s} {i} m =
+    encrypt-is-cipher m 0 (some-block (crypt-input forth m)) ∙ ap (λ (b : ℕ). cipher (keysIn w s b) (sixteen i 0)) (mod-eq-of-lt (some-slot w))
 
 -- it is made of slot 0 of what encrypt answers: for zeros there, and then for twice what these came to
 pub check-is-slot-0 : {w : Width} {s x i y j z : List ℕ} → Checks w s x → Encrypts w s i y → sixteen i 0 ≡ zeros 16
@@ -266,10 +342,10 @@ pub check-is-slot-0 : {w : Width} {s x i y j z : List ℕ} → Checks w s x → 
 unfolding checkValue
 check-is-slot-0 {w} {s} {y = y} m n e o f =
     let ciph = cipher (keysIn w s 0) in
-    let l : ciph (zeros 16) ≡ sixteen y 0 = sym (encrypt-is-cipher n 0 (some-slot w) ∙ ap ciph e) in
-    let b : Block (ciph (zeros 16)) = rw l (block-of (encrypt-batch n) 0 (some-slot w)) in
+    let l : ciph (zeros 16) ≡ sixteen y 0 = sym (encrypt-first n ∙ ap ciph e) in
+    let b : Block (ciph (zeros 16)) = rw l (block-of (encrypt-blocks n) 0 (some-block (crypt-input forth n))) in
     leaves (checkCall w) m
-    ∙ ap (take 3) (tag-of-zeros ciph b ∙ ap (λ (t : List ℕ). ciph (double t)) l ∙ sym (encrypt-is-cipher o 0 (some-slot w) ∙ ap ciph f))
+    ∙ ap (take 3) (tag-of-zeros ciph b ∙ ap (λ (t : List ℕ). ciph (double t)) l ∙ sym (encrypt-first o ∙ ap ciph f))
 
 -- so nothing but slot 0's round keys decides it
 pub check-slots-apart : {w : Width} {s t x y : List ℕ} → Checks w s x → Checks w t y → keysIn w s 0 ≡ keysIn w t 0 → x ≡ y
@@ -298,56 +374,86 @@ door-key d m = record { taken = m .can .good .taken; bytes = m .can .fits .key-b
 pub door-uses-no-zero-schedule : (d : ℕ) {key i x : List ℕ} → Doors d key i x → (n : ℕ) → roundKeys key ≡ zeroRoundKeys n → ⊥
 door-uses-no-zero-schedule d m n e = key-is-not-zeros (door-key d m) n e
 
+-- every block under the key
+abbrev underKey : Way → List ℕ → List ℕ → List ℕ
+underKey v key i = eachBlock w64 (λ slot. v .go (roundKeys key)) (blocksIn i) i
+
 -- a direction d that is the way v through the cipher: 0 is forth, 1 is backwards
 module _ (d : ℕ) (v : Way) (way : directed d ≡ v .go) {key : List ℕ} where
-  door-input : {i x : List ℕ} → Doors d key i x → Batch w64 i
-  door-input m = record { long = m .can .good .full-input; bytes = m .can .fits .input-bytes }
+  door-input : {i x : List ℕ} → Doors d key i x → Message i
+  door-input m = record { taken = m .can .good .blocks .whole; bytes = m .can .fits .input-bytes }
+
+  door-data : {i x : List ℕ} → Doors d key i x → Data (blocksIn i) i
+  door-data m = message-data (door-input m)
 
   door-keeping : Key key → Keeping (λ slot. v .go (roundKeys key))
   door-keeping k = record { keeps = λ b y. v .go-block (keys-of k) y }
 
-  door-left : {i x : List ℕ} → Doors d key i x → x ≡ eachBlock w64 (λ slot. v .go (roundKeys key)) (slots w64) i
-  door-left {i} m = leaves (doorCall d) m ∙ ap (λ (c : List (List ℕ) → List ℕ → List ℕ). eachBlock w64 (λ slot. c (roundKeys key)) (slots w64) i) way
+  door-left : {i x : List ℕ} → Doors d key i x → x ≡ underKey v key i
+  door-left {i} m = leaves (doorCall d) m ∙ ap (λ (c : List (List ℕ) → List ℕ → List ℕ). eachBlock w64 (λ slot. c (roundKeys key)) (blocksIn i) i) way
 
-  pub door-is : {i x : List ℕ} → Doors d key i x → (b : ℕ) → b < slots w64 → sixteen x b ≡ v .go (roundKeys key) (sixteen i b)
-  door-is m b h = ap (λ (l : List ℕ). sixteen l b) (door-left m) ∙ each-at w64 (door-keeping (door-key d m)) (door-input m) b h
+  pub door-is : {i x : List ℕ} → Doors d key i x → (j : ℕ) → j < blocksIn i → sixteen x j ≡ v .go (roundKeys key) (sixteen i j)
+  door-is m j h = ap (λ (l : List ℕ). sixteen l j) (door-left m) ∙ each-at w64 (door-keeping (door-key d m)) (door-data m) j h
 
-  door-output : {i x : List ℕ} → Doors d key i x → Batch w64 x
-  door-output m = rw (door-left m) (each-data w64 (door-keeping (door-key d m)) (door-input m))
+  pub door-output : {i x : List ℕ} → Doors d key i x → Data (blocksIn i) x
+  door-output m = rw (door-left m) (each-data w64 (door-keeping (door-key d m)) (door-data m))
+
+  door-message : {i x : List ℕ} → Doors d key i x → Message x
+  door-message m = as-many (door-input m) (door-data m) (door-output m)
+
+  -- cut after any block
+  door-cut : {i j x y z : List ℕ} → Doors d key i y → Doors d key j z → Doors d key (i ++ j) x → x ≡ y ++ z
+  door-cut {i} {j} a b c =
+      let g : List ℕ → List ℕ = v .go (roundKeys key) in
+      let e : length i ≡ 16 * blocksIn i = door-data a .long in
+      let l : length (i ++ j) ≡ 16 * (blocksIn i + blocksIn j) = length-append i j ∙ omega (arith, e, door-data b .long) in
+      door-left c
+      ∙ ap (λ (k : ℕ). eachBlock w64 (λ slot. g) k (i ++ j)) (blocks-are (blocksIn i + blocksIn j) (i ++ j) l)
+      ∙ alike-cut w64 g (blocksIn i) (blocksIn j) (i ++ j)
+      ∙ ap₂ _++_
+      (each-front w64 (λ slot. g) (blocksIn i) i j (omega (arith, e)) ∙ sym (door-left a))
+      (ap (eachBlock w64 (λ slot. g) (blocksIn j)) (drop-at i j (16 * blocksIn i) e) ∙ sym (door-left b))
 
   -- a call in this direction, if it comes to be made, leaves this
-  door-can : {i : List ℕ} → d ≤ 1 → Key key → Batch w64 i → Doors d key i (eachBlock w64 (λ slot. v .go (roundKeys key)) (slots w64) i)
+  door-can : {i : List ℕ} → d ≤ 1 → Key key → Message i → Doors d key i (underKey v key i)
   door-can {i} le k y =
       can-make (doorCall d) {o = i}
       (record {
         fits = record { key-bytes = k .bytes; input-bytes = y .bytes; buffer-bytes = y .bytes };
-        good = record { taken = k .taken; full-input = y .long; full-output = y .long; direction = le };
+        good = record { taken = k .taken; blocks = record { whole = y .taken; room = refl }; direction = le };
       })
-      (ap (λ (c : List (List ℕ) → List ℕ → List ℕ). eachBlock w64 (λ slot. c (roundKeys key)) (slots w64) i) (sym way))
+      (ap (λ (c : List (List ℕ) → List ℕ → List ℕ). eachBlock w64 (λ slot. c (roundKeys key)) (blocksIn i) i) (sym way))
 
 -- the direction e that is v's way back undoes it
 door-undone : (d e : ℕ) (v : Way) → directed d ≡ v .go → directed e ≡ v .back → {key i x y : List ℕ} → Doors d key i x → Doors e key x y → y ≡ i
 door-undone d e v p q {key} {i} {x} m n =
     let k = door-key d m in
     leaves (doorCall e) n
-    ∙ ap (λ (c : List (List ℕ) → List ℕ → List ℕ). eachBlock w64 (λ slot. c (roundKeys key)) (slots w64) x) q
-    ∙ ap (eachBlock w64 (λ slot. v .back (roundKeys key)) (slots w64)) (door-left d v p m)
-    ∙ each-undone w64 (door-keeping d v p k) (record { keeps = λ b y. v .back-block (keys-of k) y }) (λ b x y. v .undone (keys-of k) y) (door-input d v p m)
+    ∙ ap (λ (c : List (List ℕ) → List ℕ → List ℕ). eachBlock w64 (λ slot. c (roundKeys key)) (blocksIn x) x) q
+    ∙ ap₂ (eachBlock w64 (λ slot. v .back (roundKeys key))) (blocks-are (blocksIn i) x (door-output d v p m .long)) (door-left d v p m)
+    ∙ each-undone w64 (door-keeping d v p k) (record { keeps = λ b y. v .back-block (keys-of k) y }) (λ b x y. v .undone (keys-of k) y) (door-data d v p m)
 
 module _ {key : List ℕ} where
   -- each block is FIPS-197's Cipher, or InvCipher, of the same block under the round keys of KeyExpansion
-  pub door-0-is-cipher : {i x : List ℕ} → Doors 0 key i x → (b : ℕ) → b < slots w64 → sixteen x b ≡ cipher (roundKeys key) (sixteen i b)
+  pub door-0-is-cipher : {i x : List ℕ} → Doors 0 key i x → (j : ℕ) → j < blocksIn i → sixteen x j ≡ cipher (roundKeys key) (sixteen i j)
   door-0-is-cipher m = door-is 0 forth refl m
 
-  pub door-1-is-invCipher : {i x : List ℕ} → Doors 1 key i x → (b : ℕ) → b < slots w64 → sixteen x b ≡ invCipher (roundKeys key) (sixteen i b)
+  pub door-1-is-invCipher : {i x : List ℕ} → Doors 1 key i x → (j : ℕ) → j < blocksIn i → sixteen x j ≡ invCipher (roundKeys key) (sixteen i j)
   door-1-is-invCipher m = door-is 1 backwards refl m
 
-  -- a batch is answered by a batch
-  pub door-0-batch : {i x : List ℕ} → Doors 0 key i x → Batch w64 x
-  door-0-batch m = door-output 0 forth refl m
+  -- blocks are answered by as many blocks
+  pub door-0-blocks : {i x : List ℕ} → Doors 0 key i x → Data (blocksIn i) x
+  door-0-blocks m = door-output 0 forth refl m
 
-  pub door-1-batch : {i x : List ℕ} → Doors 1 key i x → Batch w64 x
-  door-1-batch m = door-output 1 backwards refl m
+  pub door-1-blocks : {i x : List ℕ} → Doors 1 key i x → Data (blocksIn i) x
+  door-1-blocks m = door-output 1 backwards refl m
+
+  -- by as many bytes, which it takes again
+  pub door-0-length : {i x : List ℕ} → Doors 0 key i x → length x ≡ length i
+  door-0-length m = same-count (door-data 0 forth refl m) (door-output 0 forth refl m)
+
+  pub door-0-message : {i x : List ℕ} → Doors 0 key i x → Message x
+  door-0-message m = door-message 0 forth refl m
 
   -- each direction undoes the other
   pub door-1-undoes-0 : {i x y : List ℕ} → Doors 0 key i x → Doors 1 key x y → y ≡ i
@@ -356,15 +462,15 @@ module _ {key : List ℕ} where
   pub door-0-undoes-1 : {i x y : List ℕ} → Doors 1 key i x → Doors 0 key x y → y ≡ i
   door-0-undoes-1 m n = door-undone 1 0 backwards refl refl m n
 
-  -- what a direction finds, the other leads back, and no other batch does: so each is one-to-one and onto
+  -- what a direction finds, the other leads back, and nothing else does: so each is one-to-one and onto
   door-finds-0 : {x y : List ℕ} → Doors 1 key x y → Doors 0 key y x
   door-finds-0 m =
-      let found = door-can 0 forth refl (lit≤ tt) (door-key 1 m) (door-output 1 backwards refl m) in
+      let found = door-can 0 forth refl (lit≤ tt) (door-key 1 m) (door-message 1 backwards refl m) in
       rw (door-0-undoes-1 m found) at found
 
   door-finds-1 : {x y : List ℕ} → Doors 0 key x y → Doors 1 key y x
   door-finds-1 m =
-      let found = door-can 1 backwards refl (lit≤ tt) (door-key 0 m) (door-output 0 forth refl m) in
+      let found = door-can 1 backwards refl (lit≤ tt) (door-key 0 m) (door-message 0 forth refl m) in
       rw (door-1-undoes-0 m found) at found
 
   -- one-to-one
@@ -374,21 +480,28 @@ module _ {key : List ℕ} where
   pub door-1-one-to-one : {i j x : List ℕ} → Doors 1 key i x → Doors 1 key j x → i ≡ j
   door-1-one-to-one m n = sym (door-0-undoes-1 m (door-finds-0 m)) ∙ door-0-undoes-1 n (door-finds-0 m)
 
-  -- onto: every batch is the answer to exactly one
-  pub door-0-onto : {x : List ℕ} → Key key → Batch w64 x → (i : List ℕ) × Doors 0 key i x × ((j : List ℕ) → Doors 0 key j x → j ≡ i)
+  -- onto: every string of blocks is the answer to exactly one
+  pub door-0-onto : {x : List ℕ} → Key key → Message x → (i : List ℕ) × Doors 0 key i x × ((j : List ℕ) → Doors 0 key j x → j ≡ i)
   door-0-onto {x} k d =
       let found = door-finds-0 (door-can 1 backwards refl (lit≤ tt) k d) in
-      (eachBlock w64 (λ slot. invCipher (roundKeys key)) (slots w64) x, found, λ j n. door-0-one-to-one n found)
+      (underKey backwards key x, found, λ j n. door-0-one-to-one n found)
 
-  pub door-1-onto : {x : List ℕ} → Key key → Batch w64 x → (i : List ℕ) × Doors 1 key i x × ((j : List ℕ) → Doors 1 key j x → j ≡ i)
+  pub door-1-onto : {x : List ℕ} → Key key → Message x → (i : List ℕ) × Doors 1 key i x × ((j : List ℕ) → Doors 1 key j x → j ≡ i)
   door-1-onto {x} k d =
       let found = door-finds-1 (door-can 0 forth refl (lit≤ tt) k d) in
-      (eachBlock w64 (λ slot. cipher (roundKeys key)) (slots w64) x, found, λ j n. door-1-one-to-one n found)
+      (underKey forth key x, found, λ j n. door-1-one-to-one n found)
 
-  -- SLOTS ARE APART: a block of the answer does not change when other blocks of the input do
-  module _ {i j x y : List ℕ} (b : ℕ) (h : b < slots w64) where
-    pub door-0-slots-apart : Doors 0 key i x → Doors 0 key j y → sixteen i b ≡ sixteen j b → sixteen x b ≡ sixteen y b
-    door-0-slots-apart m n e = door-0-is-cipher m b h ∙ ap (cipher (roundKeys key)) e ∙ sym (door-0-is-cipher n b h)
+  -- cut after any block: the answers joined are the answer
+  pub door-0-cut : {i j x y z : List ℕ} → Doors 0 key i y → Doors 0 key j z → Doors 0 key (i ++ j) x → x ≡ y ++ z
+  door-0-cut a b c = door-cut 0 forth refl a b c
 
-    pub door-1-slots-apart : Doors 1 key i x → Doors 1 key j y → sixteen i b ≡ sixteen j b → sixteen x b ≡ sixteen y b
-    door-1-slots-apart m n e = door-1-is-invCipher m b h ∙ ap (invCipher (roundKeys key)) e ∙ sym (door-1-is-invCipher n b h)
+  pub door-1-cut : {i j x y z : List ℕ} → Doors 1 key i y → Doors 1 key j z → Doors 1 key (i ++ j) x → x ≡ y ++ z
+  door-1-cut a b c = door-cut 1 backwards refl a b c
+
+  -- BLOCKS ARE APART: equal blocks have equal answers, whatever stands beside them, wherever they stand and however many there are
+  module _ {i k x y : List ℕ} (j l : ℕ) (h : j < blocksIn i) (h′ : l < blocksIn k) where
+    pub door-0-blocks-apart : Doors 0 key i x → Doors 0 key k y → sixteen i j ≡ sixteen k l → sixteen x j ≡ sixteen y l
+    door-0-blocks-apart m n e = door-0-is-cipher m j h ∙ ap (cipher (roundKeys key)) e ∙ sym (door-0-is-cipher n l h′)
+
+    pub door-1-blocks-apart : Doors 1 key i x → Doors 1 key k y → sixteen i j ≡ sixteen k l → sixteen x j ≡ sixteen y l
+    door-1-blocks-apart m n e = door-1-is-invCipher m j h ∙ ap (invCipher (roundKeys key)) e ∙ sym (door-1-is-invCipher n l h′)

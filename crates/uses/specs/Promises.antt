@@ -3,18 +3,18 @@
 use mathlib.Core.Path.{_≡_}
 use mathlib.Core.Bool.{true}
 use mathlib.Core.List.{List}
-use Prim.Native.Nat.{ℕ, _*_}
+use Prim.Native.Nat.{ℕ, _<_}
 use lib.ListN.{length, take}
 use Rattle.fips197.specs.Aes.{sixteen}
 use Rattle.sp800_38b.specs.Cmac.{double}
-use Rattle.lanes.specs.Layout.{Width, w64, slots}
-use Rattle.calls.specs.Calls.{keyWordsOf, zeroKey, Taken, scheduleWords, roundsOf}
+use Rattle.lanes.specs.Schedule.{blocksIn}
+use Rattle.calls.specs.Calls.{keyWordsOf, zeroKey, Taken, scheduleWords, roundsOf, wholeBlocks}
 
--- three buffers of a full batch
-pub record Batches (w : Width) (i s o : List ℕ) : Type 0 where
-  pub input : length i ≡ 16 * slots w
-  pub sealed : length s ≡ 16 * slots w
-  pub opened : length o ≡ 16 * slots w
+-- blocks as a call takes them, and two buffers of as many bytes
+pub record Buffers (i s o : List ℕ) : Type 0 where
+  pub input : wholeBlocks (length i) ≡ true
+  pub sealed : length s ≡ length i
+  pub opened : length o ≡ length i
 
 -- the answer is 0 and what was opened is what was given
 pub record Back (r : ℕ) (input opened : List ℕ) : Type 0 where
@@ -23,15 +23,20 @@ pub record Back (r : ℕ) (input opened : List ℕ) : Type 0 where
 
 -- through the door and back
 pub record DoorBack (key input sealed opened : List ℕ) (r : ℕ) (left : List ℕ) : Type 0 where
-  pub back : Taken key → Batches w64 input sealed opened → Back r input left
+  pub back : Taken key → Buffers input sealed opened → Back r input left
+
+-- a header that is decrypted alone is as it is among all of them, whatever these are
+pub record Alone (key sealed opened : List ℕ) (at : ℕ) (alone : List ℕ) (r : ℕ) (all one : List ℕ) : Type 0 where
+  pub same : Taken key → wholeBlocks (length sealed) ≡ true → length opened ≡ length sealed → at < blocksIn sealed → length alone ≡ 16
+      → (r ≡ 0) × (one ≡ sixteen all at)
 
 -- by a schedule and back
-pub record ScheduleBack (w : Width) (key schedule input sealed opened : List ℕ) (r : ℕ) (left : List ℕ) : Type 0 where
-  pub back : Taken key → length schedule ≡ scheduleWords key → Batches w input sealed opened → Back r input left
+pub record ScheduleBack (key schedule input sealed opened : List ℕ) (r : ℕ) (left : List ℕ) : Type 0 where
+  pub back : Taken key → length schedule ≡ scheduleWords key → Buffers input sealed opened → Back r input left
 
--- the check value is the beginning of a second encryption, where this is of twice the first block that came of zeros
-pub record Agrees (w : Width) (schedule three first twice second : List ℕ) (r : ℕ) (check once again : List ℕ) : Type 0 where
-  pub agrees : (roundsOf schedule ≡ 0 → ⊥) → length three ≡ 3 → Batches w twice first second → sixteen twice 0 ≡ double (sixteen once 0)
+-- the check value is the beginning of a second encryption, where this is of twice the block that came of zeros
+pub record Agrees (schedule three first twice second : List ℕ) (r : ℕ) (check once again : List ℕ) : Type 0 where
+  pub agrees : (roundsOf schedule ≡ 0 → ⊥) → length three ≡ 3 → length first ≡ 16 → length second ≡ 16 → length twice ≡ 16 → twice ≡ double once
       → (r ≡ 0) × (check ≡ take 3 again)
 
 -- refused, and nothing is changed

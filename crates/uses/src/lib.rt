@@ -3,10 +3,12 @@
 pub mod w32;
 pub mod w64;
 
-ghost use Rattle.uses.specs.Promises.{DoorBack, Refused, Destroyed};
+ghost use mathlib.Core.Path.{_≡_};
+ghost use lib.ListN.{replicate};
+ghost use Rattle.uses.specs.Promises.{DoorBack, Alone, Refused, Destroyed};
 use host::locker_aes;
 
-// Encrypts a batch through the door and decrypts it again.
+// Encrypts blocks through the door and decrypts them again.
 pub fn door_and_back(key: &[u8], input: &[u8], sealed: &mut [u8], opened: &mut [u8]) -> u32
     ensures { λ r. ⌜ DoorBack (now (key .entry)) (now (input .entry)) (now (sealed .entry)) (now (opened .entry)) r (now (opened .exit)) ⌝ }
 {
@@ -17,6 +19,27 @@ pub fn door_and_back(key: &[u8], input: &[u8], sealed: &mut [u8], opened: &mut [
     locker_aes(1, key, sealed, opened)
 }
 
+// Decrypts headers by the door: all of them in one call, and one of them alone.
+pub fn header_alone(
+    key: &[u8],
+    sealed: &[u8],
+    opened: &mut [u8],
+    at: usize,
+    alone: &mut [u8],
+) -> u32
+    ensures { λ r. ⌜
+        Alone (now (key .entry)) (now (sealed .entry)) (now (opened .entry)) at (now (alone .entry)) r (now (opened .exit)) (now (alone .exit)) ⌝ }
+{
+    let number = locker_aes(1, key, sealed, opened);
+    if number != 0 {
+        return number;
+    }
+    if at >= sealed.len() / 16 {
+        return 3;
+    }
+    locker_aes(1, key, &sealed[16 * at..16 * at + 16], alone)
+}
+
 // Asks the door for a direction that it does not have.
 pub fn refused(key: &[u8], input: &[u8], output: &mut [u8]) -> u32
     ensures { λ r. ⌜ Refused (now (output .entry)) r (now (output .exit)) ⌝ }
@@ -24,9 +47,16 @@ pub fn refused(key: &[u8], input: &[u8], output: &mut [u8]) -> u32
     locker_aes(2, key, input, output)
 }
 
-// Asks the door for a batch under a key that may have been destroyed.
+// Asks the door for blocks under a key that may have been destroyed.
 pub fn destroyed(direction: u32, key: &[u8], input: &[u8], output: &mut [u8]) -> u32
     ensures { λ r. ⌜ Destroyed (now (key .entry)) (now (output .entry)) r (now (output .exit)) ⌝ }
 {
     locker_aes(direction, key, input, output)
+}
+
+// A block of zeros. A call, so that a goal says its result and not every byte.
+fn zeros() -> [u8; 16]
+    ensures { λ r. ⌜ r ≡ replicate 16 0 ⌝ }
+{
+    [0u8; 16]
 }

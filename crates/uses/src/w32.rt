@@ -1,5 +1,4 @@
 // The exported calls at 32 bits.
-ghost use Rattle.lanes.specs.Layout.{w32 as w};
 use host::locker_aes_check32 as check;
 use host::locker_aes_decrypt32 as decrypt;
 use host::locker_aes_encrypt32 as encrypt;
@@ -7,17 +6,10 @@ use host::locker_aes_expand32 as expand;
 
 type Word = u32;
 
-// The bytes of a full batch.
-const BATCH: usize = 32;
-
 // ---- the same at both widths
-ghost use mathlib.Core.Path.{_≡_};
-ghost use Prim.Native.Nat.{_*_};
-ghost use lib.ListN.{replicate};
-ghost use Rattle.lanes.specs.Layout.{slots};
 ghost use Rattle.uses.specs.Promises.{ScheduleBack, Destroyed, Agrees};
 
-// Expands a key, encrypts a batch under its schedule and decrypts it again.
+// Expands a key, encrypts blocks under its schedule and decrypts them again.
 pub fn schedule_and_back(
     key: &[u8],
     schedule: &mut [Word],
@@ -26,7 +18,7 @@ pub fn schedule_and_back(
     opened: &mut [u8],
 ) -> u32
     ensures { λ r. ⌜
-        ScheduleBack w (now (key .entry)) (now (schedule .entry)) (now (input .entry)) (now (sealed .entry)) (now (opened .entry)) r (now (opened .exit)) ⌝ }
+        ScheduleBack (now (key .entry)) (now (schedule .entry)) (now (input .entry)) (now (sealed .entry)) (now (opened .entry)) r (now (opened .exit)) ⌝ }
 {
     let made = expand(key, schedule);
     if made != 0 {
@@ -46,14 +38,7 @@ pub fn destroyed(key: &[u8], schedule: &mut [Word]) -> u32
     expand(key, schedule)
 }
 
-// A batch of zeros. A call, so that a goal says its result and not every byte.
-fn zeros() -> [u8; BATCH]
-    ensures { λ r. ⌜ r ≡ replicate (16 * slots w) 0 ⌝ }
-{
-    [0u8; BATCH]
-}
-
-// The key check value, and the two encryptions that it is made of: of zeros, and of a batch that is to begin with twice what came of these.
+// The key check value, and the two encryptions that it is made of: of a block of zeros, and of one that is to be twice what came of it.
 pub fn check_agrees(
     schedule: &[Word],
     three: &mut [u8],
@@ -62,14 +47,14 @@ pub fn check_agrees(
     second: &mut [u8],
 ) -> u32
     ensures { λ r. ⌜
-        Agrees w (now (schedule .entry)) (now (three .entry)) (now (first .entry)) (now (twice .entry)) (now (second .entry))
+        Agrees (now (schedule .entry)) (now (three .entry)) (now (first .entry)) (now (twice .entry)) (now (second .entry))
         r (now (three .exit)) (now (first .exit)) (now (second .exit)) ⌝ }
 {
     let number = check(schedule, three);
     if number != 0 {
         return number;
     }
-    let made = encrypt(schedule, &zeros(), first);
+    let made = encrypt(schedule, &super::zeros(), first);
     if made != 0 {
         return made;
     }

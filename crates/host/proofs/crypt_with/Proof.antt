@@ -15,8 +15,8 @@ encrypt-requires c κs =
     let start = made .before .before .before .before .before .before in
     record {
       schedule = scheduled (start .args .key .now) (start .pre .keyed) (start .pre .rounds-are) (made .key-schedule .ensures);
-      input = start .pre .full-input;
-      output = start .pre .full-output;
+      whole = start .pre .whole;
+      output = start .pre .output;
     }
 
 same-length : tie.Need-same-length
@@ -42,8 +42,8 @@ decrypt-requires c κs =
     let start = made .before .before .before .before .before .before in
     record {
       schedule = scheduled (start .args .key .now) (start .pre .keyed) (start .pre .rounds-are) (made .key-schedule .ensures);
-      input = start .pre .full-input;
-      output = start .pre .full-output;
+      whole = start .pre .whole;
+      output = start .pre .output;
     }
 
 same-length-3 : tie.Need-same-length-3

@@ -1,9 +1,11 @@
 -- Each refusal by its law; the rest is behind the tests; what is erased reads as zero. Assumes nothing.
 use borrow.Author.Needs.{needs}
 use lib.ListN.{length}
-use mathlib.Core.Path.{_≡_, sym, _∙_}
+use mathlib.Core.Path.{_≡_, sym, _∙_, ap}
+use mathlib.Core.Bool.{not}
 use native.Mathlib.Omega.{arith}
 use Rattle.lanes.proofs.Sizes.{key-found}
+use Rattle.calls.proofs.WholeBlocks.{whole-rest}
 use Rattle.aes.proofs.Answers.{no-key, a-key}
 use Rattle.host.proofs.Door.{door-1, door-6, door-3, door-4, door-5, door-0, front-length, blank-is-zero}
 use Rattle.host.proofs.locker_aes.Statement.{statement}
@@ -31,29 +33,36 @@ returns-2 c =
     let r = a-key _ (sym (told .rounds .given .1) ∙ told .before .before .key-size .ensures) in
     door-6 _ _ _ _ (r .keyed) (sym (z .zero-key .ensures) ∙ c .if1 .taken)
 
+whole-blocks-requires : tie.Need-whole-blocks-requires
+whole-blocks-requires c κs = search needs
+
 returns-3 : tie.Need-returns-3
 returns-3 c =
-    let y = c .before in
+    let h = c .before in
+    let y = h .before in
     let z = y .before in
     let told = z .before .before in
     let r = a-key _ (sym (told .rounds .given .1) ∙ told .before .before .key-size .ensures) in
-    door-3 _ _ _ _ (r .keyed) (sym (z .zero-key .ensures) ∙ y .if1 .left) (c .if2 .taken)
+    door-3 _ _ _ _ (r .keyed) (sym (z .zero-key .ensures) ∙ y .if1 .left) (ap not (sym (h .whole-blocks .ensures)) ∙ c .if2 .taken)
 
 returns-4 : tie.Need-returns-4
 returns-4 c =
-    let y = c .before .before in
+    let h = c .before .before in
+    let y = h .before in
     let z = y .before in
     let told = z .before .before in
     let r = a-key _ (sym (told .rounds .given .1) ∙ told .before .before .key-size .ensures) in
-    door-4 _ _ _ _ (r .keyed) (sym (z .zero-key .ensures) ∙ y .if1 .left) (c .before .if2 .left) (c .if3 .taken)
+    door-4 _ _ _ _ (r .keyed) (sym (z .zero-key .ensures) ∙ y .if1 .left) (ap not (sym (h .whole-blocks .ensures)) ∙ c .before .if2 .left) (c .if3 .taken)
 
 returns-5 : tie.Need-returns-5
 returns-5 c =
-    let y = c .before .before .before in
+    let h = c .before .before .before in
+    let y = h .before in
     let z = y .before in
     let told = z .before .before in
     let r = a-key _ (sym (told .rounds .given .1) ∙ told .before .before .key-size .ensures) in
-    door-5 _ _ _ _ (r .keyed) (sym (z .zero-key .ensures) ∙ y .if1 .left) (c .before .before .if2 .left) (c .before .if3 .left) (c .if4 .taken)
+    door-5 _ _ _ _ (r .keyed) (sym (z .zero-key .ensures) ∙ y .if1 .left) (ap not (sym (h .whole-blocks .ensures)) ∙ c .before .before .if2 .left)
+    (c .before .if3 .left) (c .if4 .taken)
 
 blank-requires : tie.Need-blank-requires
 blank-requires c κs = search needs
@@ -66,7 +75,7 @@ part-schedule-start c = search needs
 
 part-schedule-end : tie.Need-part-schedule-end
 part-schedule-end c =
-    let told = c .before .before .before .before .before .before .before in
+    let told = c .before .before .before .before .before .before .before .before in
     let r = a-key _ (sym (told .rounds .given .1) ∙ told .before .before .key-size .ensures) in
     let l : length (c .blank .result) ≡ 120 = search needs in
     omega (arith, r .words, key-found _ (r .keyed) .sized .room)
@@ -74,15 +83,16 @@ part-schedule-end c =
 crypt-with-requires : tie.Need-crypt-with-requires
 crypt-with-requires c κs =
     let b = c .before .before in
-    let told = b .before .before .before .before .before .before .before in
+    let h = b .before .before .before .before in
+    let told = h .before .before .before .before in
     let r = a-key _ (sym (told .rounds .given .1) ∙ told .before .before .key-size .ensures) in
     let l : length (b .blank .result) ≡ 120 = search needs in
     record {
       keyed = r .keyed;
       rounds-are = r .rounds;
       words = front-length (b .blank .result) _ (omega (arith, r .words, key-found _ (r .keyed) .sized .room)) ∙ r .words;
-      full-input = b .before .before .before .if2 .left;
-      full-output = b .before .before .if3 .left;
+      whole = whole-rest _ (ap not (sym (h .whole-blocks .ensures)) ∙ b .before .before .before .if2 .left);
+      output = b .before .before .if3 .left;
     }
 
 blank-requires-2 : tie.Need-blank-requires-2
@@ -118,12 +128,13 @@ returns-8 : tie.Need-returns-8
 returns-8 c =
     let done = c .before .before .before .before .before .before .before in
     let e = done .before .before .before .before in
-    let y = e .before .before .before in
+    let h = e .before .before .before in
+    let y = h .before in
     let z = y .before in
     let told = z .before .before in
     let r = a-key _ (sym (told .rounds .given .1) ∙ told .before .before .key-size .ensures) in
-    door-0 _ _ _ _ (r .keyed) (sym (z .zero-key .ensures) ∙ y .if1 .left) (e .before .before .if2 .left) (e .before .if3 .left) (e .if4 .left)
-    (done .crypt-with .ensures)
+    door-0 _ _ _ _ (r .keyed) (sym (z .zero-key .ensures) ∙ y .if1 .left) (ap not (sym (h .whole-blocks .ensures)) ∙ e .before .before .if2 .left)
+    (e .before .if3 .left) (e .if4 .left) (done .crypt-with .ensures)
 
 pub locker-aes-spec : {M : Type 1} → statement M
 locker-aes-spec =
@@ -135,6 +146,7 @@ locker-aes-spec =
     returns
     zero-key-requires
     returns-2
+    whole-blocks-requires
     returns-3
     returns-4
     returns-5

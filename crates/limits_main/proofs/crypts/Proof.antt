@@ -8,7 +8,7 @@ abbrev Inv-loop : tie.InvT-loop
 Inv-loop bits decrypts i₀ i = Unit {0}
 
 abbrev μ-loop : tie.MeasureT-loop
-μ-loop bits decrypts i₀ i = 200 - i
+μ-loop bits decrypts i₀ i = 456 - i
 
 pub crypts-spec : {M : Type 1} → statement M
 crypts-spec =

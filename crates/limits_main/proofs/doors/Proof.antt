@@ -8,7 +8,7 @@ abbrev Inv-loop : tie.InvT-loop
 Inv-loop i₀ i = Unit {0}
 
 abbrev μ-loop : tie.MeasureT-loop
-μ-loop i₀ i = 900 - i
+μ-loop i₀ i = 2052 - i
 
 pub doors-spec : {M : Type 1} → statement M
 doors-spec =

@@ -1,8 +1,8 @@
 -- A list of sixteen is its sixteen elements. Assumes nothing.
 use borrow.Author.Needs.{needs}
 use Rattle.fips197.proofs.Blocks.{reads-all}
-use Rattle.cipher.proofs.load16.Statement.{statement}
-use Rattle.cipher.proofs.load16.Tie as tie
+use Rattle.blocks.proofs.load16.Statement.{statement}
+use Rattle.blocks.proofs.load16.Tie as tie
 
 returns : tie.Need-returns
 returns c =
