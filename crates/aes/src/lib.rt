@@ -1,4 +1,6 @@
 // The public calls: expand a key, encrypt and decrypt blocks, key check value, at each width. The numbers they answer are docs/SCOPE.md's.
+#![tactic(auto)]
+
 pub mod w32;
 pub mod w64;
 

@@ -1,5 +1,7 @@
 // What the programs share over schedules: room for one; and, below the public call, the schedules of keys of zeros, which published vectors and the Rust's
 // answers have. The library has none of this.
+#![tactic(auto)]
+
 pub mod w32;
 pub mod w64;
 

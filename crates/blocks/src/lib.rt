@@ -1,4 +1,6 @@
 // Encryption and decryption of any number of blocks, over full batches: what is left after these is worked on in a batch of its own.
+#![tactic(auto)]
+
 pub mod w32;
 pub mod w64;
 

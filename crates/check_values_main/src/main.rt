@@ -1,5 +1,7 @@
 // Compares key check values with those that another implementation gave: a line of the input is `KEY VALUE` (tools/check_values.py made it). Each key
 // goes through the public calls at both widths; how many values agreed is printed.
+#![tactic(auto)]
+
 mod w32;
 mod w64;
 

@@ -1,4 +1,6 @@
 // CMAC, NIST SP 800-38B, of a message of one complete block, by the cipher of slot 0.
+#![tactic(auto)]
+
 pub mod w32;
 pub mod w64;
 

@@ -1,4 +1,6 @@
 // What the programs share: the lines and fields of a text, its hex digits, and printing. No contract says more than its callers need.
+#![tactic(auto)]
+
 pub mod w32;
 pub mod w64;
 

@@ -1,5 +1,7 @@
 // The library that C links: include/locker_aes.h declares these nine functions. The door makes its schedule inside and leaves nothing of it behind;
 // the others are thin and have the promise of the call they pass on.
+#![tactic(auto)]
+
 ghost use Rattle.std.specs.Prelude.{◌≡◌, ◌<◌, length, replicate};
 ghost use Rattle.lanes.specs.Layout.{w32, w64};
 ghost use Rattle.outcome.specs.Outcome.{answers};

@@ -1,1 +1,2 @@
 // Definitions and laws only: see specs/Layout.antt, specs/Leaves.antt and proofs/.
+#![tactic(auto)]

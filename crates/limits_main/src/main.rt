@@ -1,5 +1,7 @@
 // Calls each public call at both sides of each limit, and prints a line `CALL LENGTHS -> NUMBER kept` for each; `written` where the buffer
 // that was lent is not as it was, `spilled` where what lies past it is not. tools/limits_expected.py states the table and made the file stdout.
+#![tactic(auto)]
+
 mod calls;
 mod lengths;
 mod w32;

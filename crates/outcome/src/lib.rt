@@ -1,1 +1,2 @@
 // What a call answers and leaves, no code: see specs/Outcome.antt.
+#![tactic(auto)]

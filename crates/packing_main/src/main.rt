@@ -1,6 +1,8 @@
 // Packs and unpacks what each line of its input gives, a name and the digits of a batch: 64 for two blocks, 128 for four.
 // It prints the line; the words that packing gives, and the bytes that unpacking gives of those; then, of the same digits as eight
 // words, the bytes that unpacking gives, and the words that packing gives of those. tools/packing_expected.py says what is right.
+#![tactic(auto)]
+
 mod w32;
 mod w64;
 

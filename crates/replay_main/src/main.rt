@@ -1,5 +1,7 @@
 // Replays the Rust's answers through the public calls, and below them where a key is zeros, and prints how many records agreed.
 // tests/oracle/sample.sh made its input and has the format.
+#![tactic(auto)]
+
 mod w32;
 mod w64;
 

@@ -1,4 +1,6 @@
 // key_schedule of the Rust's aes128.rs and aes256.rs: a key into the words of its schedule, at each width.
+#![tactic(auto)]
+
 pub mod w32;
 pub mod w64;
 

@@ -1,1 +1,2 @@
 // Definitions and laws only: see specs/Cmac.antt and proofs/.
+#![tactic(auto)]

@@ -1,6 +1,8 @@
 // Runs the published known answers of its input, a line `KEY PLAINTEXT CIPHERTEXT` for each block (tools/vectors.py made it), at both
 // widths and in both directions, and prints how many of the four checks of each record passed. Where the key is zeros the schedule is made below
 // the public call (crate below), which refuses that key; how many it refused is printed too.
+#![tactic(auto)]
+
 mod w32;
 mod w64;
 

@@ -1,4 +1,6 @@
 // word.rs of the Rust: packing blocks into a bitsliced state and back, at each width.
+#![tactic(auto)]
+
 mod blocks32;
 mod blocks64;
 pub mod w32;

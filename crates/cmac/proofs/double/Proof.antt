@@ -14,7 +14,7 @@ invariant-loop block shifted₀ carry₀ i₀ shifted carry i = Shifted block sh
 abbrev decreases-loop : tie.decreases-loop
 decreases-loop block shifted₀ carry₀ i₀ shifted carry i = 16 - i
 
-block_is : (c : tie.Start invariant-loop decreases-loop) → Block c.args.t1
+block_is : (c : tie.Start invariant-loop decreases-loop) → Block c.args.block
 block_is c = record { long = search rules; bytes = byte_fit _ (λ i. search rules) }
 
 loop-holds : tie.Need-loop-init invariant-loop decreases-loop

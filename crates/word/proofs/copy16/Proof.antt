@@ -17,7 +17,7 @@ decreases-loop part₀ from i₀ part i = 16 - i
 loop-again : tie.Need-loop-preserved invariant-loop decreases-loop
 loop-again c =
     let part = c.before.loop.part in
-    let from = c.before.before.args.t1 in
+    let from = c.before.before.args.from in
     let inv = c.before.loop.invariant in
     let i = c.before.loop.i in
     (search rules, simp length-set inv.1, inv.2, copied_more from part i (omega arith) (omega arith) inv.3)
@@ -25,7 +25,7 @@ loop-again c =
 returns : tie.Need-returns invariant-loop decreases-loop
 returns c =
     let part = c.before.loop.part in
-    let from = c.before.before.args.t1 in
+    let from = c.before.before.args.from in
     copied_all from part c.before.loop.i (omega arith) (omega arith) c.before.loop.invariant.3
 
 pub copy16-spec : {M : Type 1} → statement M

@@ -12,7 +12,7 @@ returns : tie.Need-returns
 unfolding add_words constant_words
 returns c =
     let start = c.before.before.before.before.before.before.before.before in
-    let fit = array_fit w start.args.t1 _ start.well-formed.0.1.1 in
+    let fit = array_fit w start.args.state _ start.well-formed.0.1.1 in
     does_is (search ◌∷≡◌ depth 12) (constant_law w start.args.constant start.ranges.constant.fits fit)
 
 pub add-round-constant-spec : {M : Type 1} → statement M

@@ -12,8 +12,8 @@ returns : tie.Need-returns
 unfolding column_words
 returns c =
     let start = c.before.before.before.before.before.before.before.before in
-    let fit = array_fit w start.args.t1 _ start.well-formed.0.1.1 in
-    let fit' = array_fit w start.args.t2 _ start.well-formed.1.0.1.1 in
+    let fit = array_fit w start.args.prev _ start.well-formed.0.1.1 in
+    let fit' = array_fit w start.args.cur _ start.well-formed.1.0.1.1 in
     does_is
     (c.before.before.before.before.before.before.before.xor-column.ensures ∷≡
     c.before.before.before.before.before.before.xor-column2.ensures ∷≡

@@ -11,7 +11,7 @@ returns : tie.Need-returns
 unfolding add_words
 returns c =
     let start = c.before.before.before.before.before.before.before.before in
-    add_law w (array_fit w start.args.t1 _ start.well-formed.0.1.1) (slice_fit w start.args.rkey.now c.shared-slice-known8.given)
+    add_law w (array_fit w start.args.state _ start.well-formed.0.1.1) (slice_fit w start.args.rkey.now c.shared-slice-known8.given)
 
 pub add-round-key-spec : {M : Type 1} → statement M
 add-round-key-spec =

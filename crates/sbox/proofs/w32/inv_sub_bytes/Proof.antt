@@ -8,7 +8,7 @@ use Rattle.lanes.proofs.SubBytes.{inv_sub_words, inv_sub_law}
 
 returns : tie.Need-returns
 unfolding inv_sub_words
-returns c = inv_sub_law w c.args.t1
+returns c = inv_sub_law w c.args.state
 
 pub inv-sub-bytes-spec : {M : Type 1} → statement M
 inv-sub-bytes-spec = tie.close (search (tie.spec, returns, rules))

@@ -8,7 +8,7 @@ use Rattle.lanes.proofs.Machine.{array_fit}
 use Rattle.sbox.proofs.Words.{nots}
 
 returns : tie.Need-returns
-returns c = nots w c.args.t1 (array_fit w c.args.t1 _ c.well-formed.0.1.1)
+returns c = nots w c.args.state (array_fit w c.args.state _ c.well-formed.0.1.1)
 
 pub sub-bytes-nots-spec : {M : Type 1} → statement M
 sub-bytes-nots-spec = tie.close (search (tie.spec, returns, rules))

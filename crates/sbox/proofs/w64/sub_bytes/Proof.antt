@@ -8,7 +8,7 @@ use Rattle.lanes.proofs.SubBytes.{sub_words, sub_law}
 
 returns : tie.Need-returns
 unfolding sub_words
-returns c = sub_law w c.args.t1
+returns c = sub_law w c.args.state
 
 pub sub-bytes-spec : {M : Type 1} → statement M
 sub-bytes-spec = tie.close (search (tie.spec, returns, rules))

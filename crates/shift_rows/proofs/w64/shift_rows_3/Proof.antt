@@ -13,7 +13,7 @@ returns : tie.Need-returns
 unfolding shift_words
 returns c =
     let start = c.before.before.before.before.before.before.before.before in
-    does_is (search ◌∷≡◌ depth 12) (shift_law w 2 (lit< tt) (array_fit w start.args.t1 _ start.well-formed.0.1.1))
+    does_is (search ◌∷≡◌ depth 12) (shift_law w 2 (lit< tt) (array_fit w start.args.state _ start.well-formed.0.1.1))
 
 pub shift-rows-3-spec : {M : Type 1} → statement M
 shift-rows-3-spec = tie.close (search (tie.spec, returns, rules))

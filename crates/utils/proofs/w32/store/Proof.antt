@@ -10,8 +10,8 @@ use Rattle.lanes.proofs.Parts.{eight_stored}
 
 returns : tie.Need-returns
 returns c =
-    let f : length c.args.t2 ≡ 8 = search rules in
-    eight_stored c.args.part.now c.args.t2 c.requires f
+    let f : length c.args.state ≡ 8 = search rules in
+    eight_stored c.args.part.now c.args.state c.requires f
 
 pub store_spec : {M : Type 1} → statement M
 store_spec =

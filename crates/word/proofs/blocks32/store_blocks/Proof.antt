@@ -14,7 +14,7 @@ returns c =
     let second = c.before.before in
     let first = second.before.before.before.before.before in
     let start = first.before.before.before.before in
-    let t : ℕ → ℕ = λ p. get_or start.args.t1 p 0 in
+    let t : ℕ → ℕ = λ p. get_or start.args.t p 0 in
     two_parts (store_program (words w32) w32 t) (store_length w32 t) start.args.output.now start.requires
     (first.copy16.ensures ∙ first.before.before.block-bytes.ensures)
     (second.copy162.ensures ∙ second.before.before.block-bytes2.ensures)
