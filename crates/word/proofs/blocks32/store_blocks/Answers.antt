@@ -1,0 +1,17 @@
+-- The parts are the blocks, one after the other.
+use borrow.Author.Rules.{rules}
+use lib.ListN.{get_or}
+use Prim.Native.Nat.{ℕ}
+use mathlib.Core.Path.{refl, ◌∙◌}
+use Rattle.lanes.proofs.Packing.{store_length, two_parts}
+use Rattle.lanes.specs.Layout.{w32}
+use Rattle.lanes.specs.Programs.{words, store_program}
+use Rattle.word.proofs.blocks32.store_blocks.Goals as goal
+
+pub returns : goal.returns
+returns c =
+    let t : ℕ → ℕ = λ p. get_or c.args.t p 0 in
+    two_parts (store_program (words w32) w32 t) (store_length w32 t) c.args.output.now c.requires
+    (c.copy16.ensures ∙ c.block_bytes.ensures)
+    (c.copy16-2.ensures ∙ c.block_bytes-2.ensures)
+    _ refl

@@ -1,0 +1,14 @@
+-- What is copied so far is a prefix of both.
+use borrow.Author.Rules.{rules}
+use Prim.Native.Nat.{◌≤◌, ◌-◌}
+use lib.ListN.{length, take, length-set}
+use mathlib.Core.Path.{◌≡◌}
+use native.Mathlib.Omega.{arith}
+use Rattle.word.proofs.Copy.{copied_more, copied_all}
+use Rattle.word.proofs.copy16.Given as goal
+
+abbrev pub invariant-loop-i : goal.invariant-loop-i
+invariant-loop-i l = (l.i ≤ 16) × (length l.part ≡ 16) × (length l.from ≡ 16) × (take l.i l.part ≡ take l.i l.from)
+
+abbrev pub decreases-loop-i : goal.decreases-loop-i
+decreases-loop-i l = 16 - l.i
