@@ -78,6 +78,16 @@ pub record Upwards (w : Width) (l : List ℕ) (n : ℕ) (s₀ s : List ℕ) (r :
   pub less : r < n
   pub done : Done w l (r - 1) s₀ s
 
+-- after form 1 of a turn, which is round r, and after form 3
+module _ {w : Width} {l : List ℕ} {n r : ℕ} {s₀ s : List ℕ} (u : Upwards w l n s₀ s r) where
+  pub after_1 : {v : List ℕ} → Round w l r 1 s v → Done w l r s₀ v
+  after_1 f = let form : r % 4 ≡ 1 = u.form in done_more (omega arith) form u.done f
+
+  pub after_3 : {t v x : List ℕ} → Round w l r 1 s t → Round w l (r + 1) 2 t v → Round w l (r + 1 + 1) 3 v x → Done w l (r + 1 + 1) s₀ x
+  after_3 f g h =
+      let form : r % 4 ≡ 1 = u.form in
+      done_more refl (omega arith) (done_more refl (omega arith) (after_1 f) g) h
+
 -- ---- downwards: rounds n to 1 are left to undo of s where m to 1 were of s₀
 pub record Left (w : Width) (l : List ℕ) (n m : ℕ) (s₀ s : List ℕ) : Type 0 where
   pub each : (b : ℕ) → b < slots w → undone_from (stored w l b) n (slot w s b) ≡ undone_from (stored w l b) m (slot w s₀ b)
@@ -111,6 +121,34 @@ pub record Downwards (w : Width) (l : List ℕ) (n : ℕ) (s₀ s : List ℕ) (r
   pub odd : r % 2 ≡ 1
   pub less : r < n
   pub left : Left w l r (n - 1) s₀ s
+
+-- before form 1 of a turn that began at round r₀: where forms 3 and 2 were to be undone, they are
+pub record Form1 (w : Width) (l : List ℕ) (n : ℕ) (s₀ s : List ℕ) (r₀ r : ℕ) : Type 0 where
+  pub form : r % 4 ≡ 1
+  pub down : r ≤ r₀
+  pub less : r < n
+  pub left : Left w l r (n - 1) s₀ s
+
+module _ {w : Width} {l : List ℕ} {n r₀ r : ℕ} {s₀ s t : List ℕ} (d : Downwards w l n s₀ s r₀) where
+  pub from_3 : {u v : List ℕ} → r₀ % 4 ≡ 3 → Unround w l r₀ 3 s u → Unround w l (r₀ - 1) 2 u v → r ≡ r₀ - 1 - 1 → t ≡ v → Form1 w l n s₀ t r₀ r
+  from_3 form f g e h =
+      let less : r₀ < n = d.less in
+      record {
+        form = omega arith;
+        down = omega arith;
+        less = omega arith;
+        left = left_are e h (left_less (omega arith) (omega arith) (left_less (omega arith) form d.left f) g);
+      }
+
+  pub from_1 : (r₀ % 4 ≡ 3 → ⊥) → r ≡ r₀ → t ≡ s → Form1 w l n s₀ t r₀ r
+  from_1 other e h =
+      let less : r₀ < n = d.less in
+      let odd : r₀ % 2 ≡ 1 = d.odd in
+      record { form = omega arith; down = omega arith; less = omega arith; left = left_are e h d.left }
+
+-- after form 1
+pub after_form_1 : {w : Width} {l : List ℕ} {n r₀ r : ℕ} {s₀ s v : List ℕ} → Form1 w l n s₀ s r₀ r → Unround w l r 1 s v → Left w l (r - 1) (n - 1) s₀ v
+after_form_1 {r = r} t f = let form : r % 4 ≡ 1 = t.form in left_less (omega arith) form t.left f
 
 -- ---- from the batch that comes in to the batch that goes out
 module _ (w : Width) (l : List ℕ) (n : ℕ) (some : 2 ≤ n) (i : List ℕ) {s₀ s₁ s₂ s₃ s₄ s₅ : List ℕ} where

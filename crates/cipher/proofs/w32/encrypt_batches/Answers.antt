@@ -25,7 +25,7 @@ loop-i-preserved c =
     let i = c.loop-i.i in
     let k : 16 * slots w * i + 16 * slots w - 16 * slots w * i ≡ 16 * slots w = omega arith in
     batches_next w _ c.args.input.now i (16 * slots w * i) (16 * slots w * i + 16 * slots w - 16 * slots w * i) (omega arith) k
-    (omega (arith, k, c.loop-i-test.true)) c.requires.output (c.encrypt_batch.auto.1.1.1.0 ∙ search rules)
+    (omega (arith, k, c.loop-i-test.true)) c.requires.output (c.encrypt_batch.auto.output ∙ search rules)
     c.encrypt_batch.ensures c.loop-i.invariant
 
 pub returns : goal.returns

@@ -6,34 +6,13 @@ use borrow.Author.Rules.{rules}
 use Prim.Native.Nat.{◌+◌, ◌-◌, ◌<◌}
 use mathlib.Core.Path.{refl}
 use native.Mathlib.Omega.{arith}
-use Rattle.cipher.proofs.Steps.{round_is, Done, done_none, done_more, done_are, done_does, Upwards}
+use Rattle.cipher.proofs.Steps.{round_is, done_none, done_more, done_are, done_does, after_1, after_3}
 
 pub loop-r-init : goal.loop-r-init
 loop-r-init c = record { form = search rules; less = omega arith; done = done_none }
 
--- after form 1, which is round r
-after-1 : (c : goal.After-add_key-s1)
-    → (
-    Done w c.args.rkeys.now c.loop-r.r c.args.first c.add_key-s1.result)
-after-1 c =
-    let inv = c.loop-r.invariant in
-    done_more (omega arith) inv.form inv.done
-    (round_is c.sub_bytes.ensures c.mix_columns_1.ensures c.add_key-s1.ensures)
-
--- after form 3
-after-3 : (c : goal.After-add_key-s3)
-    → (
-    Done w c.args.rkeys.now (c.loop-r.r + 1 + 1) c.args.first c.add_key-s3.result)
-after-3 c =
-    done_more refl (omega arith)
-    (done_more refl (omega arith) (after-1 c)
-    (round_is c.sub_bytes-in-loop-r.ensures c.mix_columns_2.ensures c.add_key-s2.ensures))
-    (round_is c.sub_bytes-in-loop-r-2.ensures c.mix_columns_3.ensures c.add_key-s3.ensures)
-
 -- where the loop goes on: n is even and neither r + 1 nor r + 3
-on : (c : goal.After-add_key-s4)
-    → (
-    c.loop-r.r + 4 < c.args.n)
+on : (c : goal.After-add_key-s4) → c.loop-r.r + 4 < c.args.n
 on c =
     let form = c.loop-r.invariant.form in
     let less = c.loop-r.invariant.less in
@@ -55,12 +34,18 @@ loop-r-preserved c =
       form = omega arith;
       less = omega (arith, on c);
       done = done_are (omega arith)
-          (done_more refl (omega arith) (after-3 c)
+          (done_more refl (omega arith) (after_3 c.loop-r.invariant
+    (round_is c.sub_bytes.ensures c.mix_columns_1.ensures c.add_key-s1.ensures)
+    (round_is c.sub_bytes-in-loop-r.ensures c.mix_columns_2.ensures c.add_key-s2.ensures)
+    (round_is c.sub_bytes-in-loop-r-2.ensures c.mix_columns_3.ensures c.add_key-s3.ensures))
           (round_is c.sub_bytes-in-loop-r-3.ensures c.mix_columns_0.ensures c.add_key-s4.ensures));
     }
 
 pub returns-then-r-n : goal.returns-then-r-n
-returns-then-r-n c = done_does (omega arith) (after-1 c)
+returns-then-r-n c = done_does (omega arith) (after_1 c.loop-r.invariant (round_is c.sub_bytes.ensures c.mix_columns_1.ensures c.add_key-s1.ensures))
 
 pub returns-then-r-n-2 : goal.returns-then-r-n-2
-returns-then-r-n-2 c = done_does (omega arith) (after-3 c)
+returns-then-r-n-2 c = done_does (omega arith) (after_3 c.loop-r.invariant
+    (round_is c.sub_bytes.ensures c.mix_columns_1.ensures c.add_key-s1.ensures)
+    (round_is c.sub_bytes-in-loop-r.ensures c.mix_columns_2.ensures c.add_key-s2.ensures)
+    (round_is c.sub_bytes-in-loop-r-2.ensures c.mix_columns_3.ensures c.add_key-s3.ensures))

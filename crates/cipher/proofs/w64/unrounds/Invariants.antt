@@ -7,7 +7,7 @@ use Prim.Native.Nat.{◌-◌, ◌%◌, ◌≤◌, ◌<◌}
 use mathlib.Core.Path.{◌≡◌}
 use mathlib.Core.Logic.{⊎_elim}
 use native.Mathlib.Omega.{arith}
-use Rattle.cipher.proofs.Steps.{unround_is, Left, left_all, left_less, left_are, left_none, Downwards}
+use Rattle.cipher.proofs.Steps.{Downwards}
 
 abbrev pub invariant-loop-r : goal.invariant-loop-r
 invariant-loop-r l = Downwards w l.rkeys l.n l.initial.state l.state l.r

@@ -21,5 +21,4 @@ returns-in-3 c =
 
 pub returns-in_default : goal.returns-in_default
 returns-in_default c =
-    let r = c.in-1.rest in
-    numbered rows_unshifted (omega (arith, c.requires.1, r.0.0.1, r.0.1, r.1)) times_none
+    numbered rows_unshifted (omega (arith, c.requires.1)) times_none

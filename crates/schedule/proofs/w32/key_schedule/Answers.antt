@@ -13,38 +13,28 @@ use Rattle.schedule.proofs.Adjusting.{whole}
 use Rattle.schedule.proofs.Growing.{loaded_keys}
 use Rattle.schedule.proofs.KeySizes.{KeyBlocks, key_blocks}
 
--- the key's blocks, and the schedule's words
-sizes : (c : goal.Start) → KeyBlocks (length c.args.key.now) (length c.args.rkeys.now)
-sizes c = key_blocks _ _ c.requires
-
 pub overflow_sub-n : goal.overflow_sub-n
-overflow_sub-n c = let words = (sizes c).blocks.words in omega arith
+overflow_sub-n c = let words = (key_blocks _ _ c.requires).blocks.words in omega arith
 
 pub load_key-requires : goal.load_key-requires
 load_key-requires c =
-    let words = (sizes c).blocks.words in
-    ((sizes c).bytes, omega arith)
+    let words = (key_blocks _ _ c.requires).blocks.words in
+    ((key_blocks _ _ c.requires).bytes, omega arith)
 
 pub expand_keys-requires : goal.expand_keys-requires
 expand_keys-requires c =
-    let blocks = (sizes c).blocks in
-    record { some = blocks.some; few = blocks.few; words = c.load_key.auto.0 ∙ blocks.words }
-
--- the schedule's length after the expansion
-expanded : (c : goal.After-expand_keys)
-    → (
-    length c.expand_keys.new.0 ≡ length c.args.rkeys.now)
-expanded c = c.expand_keys.auto.0 ∙ c.load_key.auto.0
+    let blocks = (key_blocks _ _ c.requires).blocks in
+    record { some = blocks.some; few = blocks.few; words = c.load_key.auto.rkeys ∙ blocks.words }
 
 pub write_keys-requires : goal.write_keys-requires
 write_keys-requires c =
-    let words = (sizes c).blocks.words in
-    let long = expanded c in
+    let words = (key_blocks _ _ c.requires).blocks.words in
+    let long : length c.expand_keys.new.rkeys ≡ length c.args.rkeys.now = c.expand_keys.auto.rkeys ∙ c.load_key.auto.rkeys in
     (omega arith, omega arith)
 
 pub returns : goal.returns
 returns c =
-    let size = sizes c in
+    let size = key_blocks _ _ c.requires in
     let words = size.blocks.words in
     let some = size.blocks.some in
     let key = c.args.key.now in
@@ -53,7 +43,7 @@ returns c =
     let rounds : length c.args.rkeys.now / 8 - 1 ≡ rounds_for (4 * m) = omega arith in
     rw size.nk_is
     (whole w (4 * m) key (omega arith) long (byte_fit key c.shared_slice_known-1.given)
-    rounds (expanded c ∙ omega arith)
+    rounds (c.expand_keys.auto.rkeys ∙ c.load_key.auto.rkeys ∙ omega arith)
     (c.expand_keys.ensures.more key long (loaded_keys w m some long c.load_key.ensures))
     c.write_keys.ensures
-    c.write_keys.auto.0 (slice_fit w _ c.slice_known-4-1.given))
+    c.write_keys.auto.rkeys (slice_fit w _ c.slice_known-4-1.given))

@@ -16,7 +16,7 @@ loop-i-preserved c =
     let i = c.loop-i.i in
     let j : 16 * i + 16 - 16 * i ≡ 16 = omega arith in
     let k : 8 * i + 8 - 8 * i ≡ 8 = omega arith in
-    loaded_lent w i _ _ c.store.new.0 j k (search rules) (search rules) (c.store.auto.0 ∙ search rules)
+    loaded_lent w i _ _ c.store.new.part j k (search rules) (search rules) (c.store.auto.part ∙ search rules)
     c.broadcast.ensures c.store.ensures c.loop-i.invariant
 
 pub returns : goal.returns

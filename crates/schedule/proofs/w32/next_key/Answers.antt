@@ -16,5 +16,5 @@ returns c =
     let off : 8 * a.r - 8 + 8 ≡ 8 * a.r = omega arith in
     let k : 8 * a.r + 8 - 8 * a.r ≡ 8 = omega arith in
     next_is w a.rows a.m a.r (8 * a.r - 8) (8 * a.m) _ c.requires.0 off refl k
-    c.memshift32.auto.0 (c.key_pass.auto.0 ∙ search rules) c.xor_columns.auto.0
+    c.memshift32.auto.rkeys (c.key_pass.auto.part ∙ search rules) c.xor_columns.auto.rkeys
     c.memshift32.ensures c.key_pass.ensures c.xor_columns.ensures

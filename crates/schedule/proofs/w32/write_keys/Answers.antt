@@ -17,7 +17,7 @@ loop-r-preserved c =
     let r = c.loop-r.r in
     let k : 8 * r + 8 - 8 * r ≡ 8 = omega arith in (
       search rules,
-      adjusted_lent w _ r _ k (omega arith) (search rules) (c.write_key.auto.0 ∙ search rules)
+      adjusted_lent w _ r _ k (omega arith) (search rules) (c.write_key.auto.part ∙ search rules)
           (write_inner c.loop-r.invariant.1.some (λ e. omega arith) c.write_key.ensures) c.loop-r.invariant.1,
     )
 
@@ -26,5 +26,5 @@ returns c =
     let n = c.args.n in
     let e : c.loop-r.r ≡ n = omega arith in
     let k : 8 * n + 8 - 8 * n ≡ 8 = omega arith in
-    (adjusted_lent w _ n _ k (omega arith) (search rules) (c.sub_bytes_nots_in.auto.0 ∙ search rules)
-    (write_last (search rules) refl c.sub_bytes_nots_in.ensures) (rw e c c.loop-r.invariant.1)).done
+    (adjusted_lent w _ n _ k (omega arith) (search rules) (c.sub_bytes_nots_in.auto.part ∙ search rules)
+    (write_last (search rules) refl c.sub_bytes_nots_in.ensures) (rw e at c.loop-r.invariant.1)).done
