@@ -35,9 +35,9 @@ loop-r-preserved c =
       less = omega (arith, on c);
       done = done_are (omega arith)
           (done_more refl (omega arith) (after_3 c.loop-r.invariant
-    (round_is c.sub_bytes.ensures c.mix_columns_1.ensures c.add_key-s1.ensures)
-    (round_is c.sub_bytes-in-loop-r.ensures c.mix_columns_2.ensures c.add_key-s2.ensures)
-    (round_is c.sub_bytes-in-loop-r-2.ensures c.mix_columns_3.ensures c.add_key-s3.ensures))
+          (round_is c.sub_bytes.ensures c.mix_columns_1.ensures c.add_key-s1.ensures)
+          (round_is c.sub_bytes-in-loop-r.ensures c.mix_columns_2.ensures c.add_key-s2.ensures)
+          (round_is c.sub_bytes-in-loop-r-2.ensures c.mix_columns_3.ensures c.add_key-s3.ensures))
           (round_is c.sub_bytes-in-loop-r-3.ensures c.mix_columns_0.ensures c.add_key-s4.ensures));
     }
 

@@ -14,10 +14,10 @@ loop-r-init c = record { odd = omega arith; less = omega arith; left = left_all 
 before-1 : (c : Joined-r-eq3) → Form1 w c.args.rkeys.now c.args.n c.args.first c.if-r-eq3.state c.loop-r.r c.if-r-eq3.r
 before-1 c =
     elim c.if-r-eq3.branch [
-      then-r-eq3 t ↦ from_3 c.loop-r.invariant t.if-r-eq3.true
+      | then-r-eq3 t ↦ from_3 c.loop-r.invariant t.if-r-eq3.true
           (unround_is t.add_key.ensures t.inv_mix_columns_3.ensures t.inv_sub_bytes-t3.ensures)
           (unround_is t.add_key-then-r-eq3.ensures t.inv_mix_columns_2.ensures t.inv_sub_bytes-t2.ensures) t.r-is t.state-is
-    | else-r-eq3 e ↦ from_1 c.loop-r.invariant e.if-r-eq3.false e.r-is e.state-is
+      | else-r-eq3 e ↦ from_1 c.loop-r.invariant e.if-r-eq3.false e.r-is e.state-is
     ]
 
 pub add_key-requires-in-loop-r : goal.add_key-requires-in-loop-r

@@ -1,0 +1,24 @@
+-- Each turn copies the next block.
+use borrow.Author.Rules.{rules}
+use mathlib.Core.Path.{◌≡◌, ◌∙◌}
+use Prim.Native.Nat.{◌+◌, ◌-◌, ◌*◌}
+use native.Mathlib.Omega.{arith}
+use lib.ListN.{length}
+use Rattle.blocks.proofs.Parts.{BlocksDone, blocks_none, blocks_next, blocks_all}
+use Rattle.blocks.proofs.copy_blocks.Goals as goal
+
+pub loop-i-init : goal.loop-i-init
+loop-i-init c = blocks_none _
+
+pub loop-i-preserved : goal.loop-i-preserved
+loop-i-preserved c =
+    let i = c.loop-i.i in
+    let k : 16 * i + 16 - 16 * i ≡ 16 = omega arith in
+    blocks_next c.args.from.now i (16 * i) (16 * i + 16 - 16 * i) (omega arith) k
+    (omega (arith, k, c.loop-i-test.true)) c.requires.room (c.copy16.auto.part ∙ search rules)
+    (c.copy16.ensures ∙ c.load16.ensures) c.loop-i.invariant
+
+pub returns : goal.returns
+returns c =
+    let all : length c.args.from.now ≡ 16 * c.loop-i.i = omega (arith, c.requires.whole, c.loop-i.invariant.few, c.loop-i-test.false) in
+    blocks_all c.args.from.now c.loop-i.i all c.requires.room c.loop-i.invariant

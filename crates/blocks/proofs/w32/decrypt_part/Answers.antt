@@ -1,0 +1,36 @@
+-- The blocks are at the front of a batch, and the front of what that becomes is copied out.
+use Rattle.lanes.specs.Layout.{w32 as w}
+use Rattle.blocks.proofs.w32.decrypt_part.Goals as goal
+-- ---- the same at both widths
+use borrow.Author.Rules.{rules}
+use mathlib.Core.Path.{◌≡◌, sym, ◌∙◌}
+use mathlib.Core.List.{◌++◌}
+use Prim.Native.Nat.{◌-◌, ◌*◌}
+use native.Mathlib.Omega.{arith}
+use lib.ListN.{length, drop}
+use Rattle.lanes.specs.Layout.{slots}
+use Rattle.cipher.proofs.Batches.{backwards, crypted_long}
+use Rattle.blocks.proofs.Parts.{front_length, front_is}
+
+pub slice_bounds-decrypt_batches-end : goal.slice_bounds-decrypt_batches-end
+slice_bounds-decrypt_batches-end c =
+    let zeros : length c.zeros-batch.result ≡ 16 * slots w = search rules in
+    let full : length (c.copy_blocks.new.to ++ drop (length c.args.input.now - 0) c.zeros-batch.result) ≡ 16 * slots w =
+    front_length w c.zeros-batch.result (length c.args.input.now - 0) (omega arith) c.copy_blocks.ensures zeros c.requires.most in
+    sym full
+
+pub decrypt_batches-requires : goal.decrypt_batches-requires
+decrypt_batches-requires c =
+    let zeros : length c.zeros-batch.result ≡ 16 * slots w = search rules in
+    let full : length (c.copy_blocks.new.to ++ drop (length c.args.input.now - 0) c.zeros-batch.result) ≡ 16 * slots w =
+    front_length w c.zeros-batch.result (length c.args.input.now - 0) (omega arith) c.copy_blocks.ensures zeros c.requires.most in
+    let out : length c.zeros-out.result ≡ 16 * slots w = search rules in
+    record { schedule = c.requires.lent.schedule; whole = omega (arith, full); output = out ∙ sym full }
+
+pub returns : goal.returns
+returns c =
+    let a = c.args in
+    c.copy_blocks-2.ensures
+    ∙ front_is w c.zeros-batch.result (length a.input.now - 0) (omega arith) c.copy_blocks.ensures
+    (search rules) c.requires.most _ (crypted_long backwards w a.n a.schedule.now) c.requires.lent.whole
+    c.decrypt_batches.ensures
