@@ -1,0 +1,11 @@
+-- Byte by byte, from the first.
+use borrow.Author.Rules.{rules}
+use Prim.Native.Nat.{◌-◌}
+use Rattle.cmac.proofs.Summing.{Summed, summed_none, summed_more, summed_all}
+use Rattle.cmac.proofs.xor.Given as goal
+
+abbrev pub invariant-loop-i : goal.invariant-loop-i
+invariant-loop-i l = Summed l.initial.sum l.y l.sum l.i
+
+abbrev pub decreases-loop-i : goal.decreases-loop-i
+decreases-loop-i l = 16 - l.i
