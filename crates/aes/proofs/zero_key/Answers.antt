@@ -1,0 +1,14 @@
+-- What is joined so far is zero exactly where those bytes are.
+use borrow.Author.Rules.{rules}
+use Prim.Native.Nat.{◌-◌}
+use Rattle.aes.proofs.Joined.{Joined, joined_none, joined_more, joined_all}
+use Rattle.aes.proofs.zero_key.Goals as goal
+
+pub loop-i-init : goal.loop-i-init
+loop-i-init c = joined_none _
+
+pub loop-i-preserved : goal.loop-i-preserved
+loop-i-preserved c = joined_more _ _ _ (search rules) c.loop-i.invariant
+
+pub returns : goal.returns
+returns c = joined_all _ _ _ (search rules) c.loop-i.invariant
