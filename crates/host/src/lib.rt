@@ -1,5 +1,5 @@
-// The library that C links: include/locker_aes.h declares these nine functions. The door makes its schedule inside and leaves nothing of it behind;
-// the others are thin and have the promise of the call they pass on.
+// What C calls, by way of crate host_c: include/locker_aes.h declares these nine functions. The door makes its schedule inside and leaves nothing
+// of it behind; the others are thin and have the promise of the call they pass on.
 #![tactic(auto)]
 
 ghost use Rattle.std.specs.Prelude.{◌≡◌, ◌<◌, length, replicate};
@@ -55,8 +55,7 @@ fn crypt_with(
 }
 
 // The door: a key, blocks and a direction, 0 to encrypt and 1 to decrypt. The schedule does not leave it, and is erased.
-#[unsafe(no_mangle)]
-pub extern "C" fn locker_aes(direction: u32, key: &[u8], input: &[u8], output: &mut [u8]) -> u32
+pub fn locker_aes(direction: u32, key: &[u8], input: &[u8], output: &mut [u8]) -> u32
     ensures { answers result output.new ≡ door_outcome direction key.now input.now output.old }
 {
     let KeySize::Of(rounds, words) = key_size(key.len()) else {
@@ -96,57 +95,49 @@ pub extern "C" fn locker_aes(direction: u32, key: &[u8], input: &[u8], output: &
     0
 }
 
-#[unsafe(no_mangle)]
-pub extern "C" fn locker_aes_expand32(key: &[u8], schedule: &mut [u32]) -> u32
+pub fn locker_aes_expand32(key: &[u8], schedule: &mut [u32]) -> u32
     ensures { answers result schedule.new ≡ expand_outcome w32 key.now schedule.old }
 {
     aes::w32::expand(key, schedule)
 }
 
-#[unsafe(no_mangle)]
-pub extern "C" fn locker_aes_encrypt32(schedule: &[u32], input: &[u8], output: &mut [u8]) -> u32
+pub fn locker_aes_encrypt32(schedule: &[u32], input: &[u8], output: &mut [u8]) -> u32
     ensures { answers result output.new ≡ encrypt_outcome w32 schedule.now input.now output.old }
 {
     aes::w32::encrypt(schedule, input, output)
 }
 
-#[unsafe(no_mangle)]
-pub extern "C" fn locker_aes_decrypt32(schedule: &[u32], input: &[u8], output: &mut [u8]) -> u32
+pub fn locker_aes_decrypt32(schedule: &[u32], input: &[u8], output: &mut [u8]) -> u32
     ensures { answers result output.new ≡ decrypt_outcome w32 schedule.now input.now output.old }
 {
     aes::w32::decrypt(schedule, input, output)
 }
 
-#[unsafe(no_mangle)]
-pub extern "C" fn locker_aes_check32(schedule: &[u32], output: &mut [u8]) -> u32
+pub fn locker_aes_check32(schedule: &[u32], output: &mut [u8]) -> u32
     ensures { answers result output.new ≡ check_outcome w32 schedule.now output.old }
 {
     aes::w32::check_value(schedule, output)
 }
 
-#[unsafe(no_mangle)]
-pub extern "C" fn locker_aes_expand64(key: &[u8], schedule: &mut [u64]) -> u32
+pub fn locker_aes_expand64(key: &[u8], schedule: &mut [u64]) -> u32
     ensures { answers result schedule.new ≡ expand_outcome w64 key.now schedule.old }
 {
     aes::w64::expand(key, schedule)
 }
 
-#[unsafe(no_mangle)]
-pub extern "C" fn locker_aes_encrypt64(schedule: &[u64], input: &[u8], output: &mut [u8]) -> u32
+pub fn locker_aes_encrypt64(schedule: &[u64], input: &[u8], output: &mut [u8]) -> u32
     ensures { answers result output.new ≡ encrypt_outcome w64 schedule.now input.now output.old }
 {
     aes::w64::encrypt(schedule, input, output)
 }
 
-#[unsafe(no_mangle)]
-pub extern "C" fn locker_aes_decrypt64(schedule: &[u64], input: &[u8], output: &mut [u8]) -> u32
+pub fn locker_aes_decrypt64(schedule: &[u64], input: &[u8], output: &mut [u8]) -> u32
     ensures { answers result output.new ≡ decrypt_outcome w64 schedule.now input.now output.old }
 {
     aes::w64::decrypt(schedule, input, output)
 }
 
-#[unsafe(no_mangle)]
-pub extern "C" fn locker_aes_check64(schedule: &[u64], output: &mut [u8]) -> u32
+pub fn locker_aes_check64(schedule: &[u64], output: &mut [u8]) -> u32
     ensures { answers result output.new ≡ check_outcome w64 schedule.now output.old }
 {
     aes::w64::check_value(schedule, output)
