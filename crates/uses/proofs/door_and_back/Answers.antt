@@ -1,0 +1,27 @@
+-- By the theorem that direction 1 undoes direction 0.
+use borrow.Author.Rules.{rules}
+use Rattle.lanes.proofs.Machine.{byte_fit}
+use Rattle.uses.proofs.Laws.{door_stops, door_back}
+use Rattle.uses.proofs.door_and_back.Goals as goal
+
+pub returns-then-number-ne0 : goal.returns-then-number-ne0
+returns-then-number-ne0 c =
+    let a = c.args in
+    door_stops a.key.now a.input.now a.sealed.now a.opened.now
+    (byte_fit _ c.shared_slice_known-1.given)
+    (byte_fit _ c.shared_slice_known-2-1.given)
+    (byte_fit _ c.slice_known-1.given)
+    (byte_fit _ c.slice_known-2-1.given)
+    c.locker_aes-number.ensures
+    c.if-number-ne0.true
+
+pub returns : goal.returns
+returns c =
+    let a = c.args in
+    door_back a.key.now a.input.now a.sealed.now a.opened.now
+    (byte_fit _ c.shared_slice_known-1.given)
+    (byte_fit _ c.shared_slice_known-2-1.given)
+    (byte_fit _ c.slice_known-1.given)
+    (byte_fit _ c.slice_known-2-1.given)
+    c.locker_aes-number.ensures
+    c.locker_aes.ensures
