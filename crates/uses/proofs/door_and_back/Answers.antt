@@ -8,10 +8,10 @@ pub returns-then-number-ne0 : goal.returns-then-number-ne0
 returns-then-number-ne0 c =
     let a = c.args in
     door_stops a.key.now a.input.now a.sealed.now a.opened.now
-    (byte_fit _ c.shared_slice_known-1.given)
-    (byte_fit _ c.shared_slice_known-2-1.given)
-    (byte_fit _ c.slice_known-1.given)
-    (byte_fit _ c.slice_known-2-1.given)
+    (byte_fit _ (search rules))
+    (byte_fit _ (search rules))
+    (byte_fit _ (search rules))
+    (byte_fit _ (search rules))
     c.locker_aes-number.ensures
     c.if-number-ne0.true
 
@@ -19,9 +19,9 @@ pub returns : goal.returns
 returns c =
     let a = c.args in
     door_back a.key.now a.input.now a.sealed.now a.opened.now
-    (byte_fit _ c.shared_slice_known-1.given)
-    (byte_fit _ c.shared_slice_known-2-1.given)
-    (byte_fit _ c.slice_known-1.given)
-    (byte_fit _ c.slice_known-2-1.given)
+    (byte_fit _ (search rules))
+    (byte_fit _ (search rules))
+    (byte_fit _ (search rules))
+    (byte_fit _ (search rules))
     c.locker_aes-number.ensures
     c.locker_aes.ensures

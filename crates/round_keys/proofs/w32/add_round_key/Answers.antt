@@ -9,4 +9,4 @@ use Rattle.lanes.proofs.Machine.{array_fit, slice_fit}
 pub returns : goal.returns
 unfolding add_words
 returns c =
-    add_law w (array_fit w c.args.state _ c.well_formed.0.1.1) (slice_fit w c.args.rkey.now c.shared_slice_known-8-1.given)
+    add_law w (array_fit w c.args.state _ c.well_formed.0.1.1) (slice_fit w c.args.rkey.now (search rules))

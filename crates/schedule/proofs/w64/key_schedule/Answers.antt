@@ -42,8 +42,8 @@ returns c =
     let long : length key ≡ 4 * (4 * m) = size.bytes ∙ omega arith in
     let rounds : length c.args.rkeys.now / 8 - 1 ≡ rounds_for (4 * m) = omega arith in
     rw size.nk_is
-    (whole w (4 * m) key (omega arith) long (byte_fit key c.shared_slice_known-1.given)
+    (whole w (4 * m) key (omega arith) long (byte_fit key (search rules))
     rounds (c.expand_keys.auto.rkeys ∙ c.load_key.auto.rkeys ∙ omega arith)
     (c.expand_keys.ensures.more key long (loaded_keys w m some long c.load_key.ensures))
     c.write_keys.ensures
-    c.write_keys.auto.rkeys (slice_fit w _ c.slice_known-4-1.given))
+    c.write_keys.auto.rkeys (slice_fit w _ (search rules)))

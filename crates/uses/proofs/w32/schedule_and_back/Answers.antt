@@ -9,11 +9,11 @@ pub returns-then-made-ne0 : goal.returns-then-made-ne0
 returns-then-made-ne0 c =
     let a = c.args in
     expand_stops w a.key.now a.schedule.now a.input.now a.sealed.now a.opened.now
-    (byte_fit _ c.shared_slice_known-1.given)
-    (slice_fit w _ c.slice_known-1.given)
-    (byte_fit _ c.shared_slice_known-2-1.given)
-    (byte_fit _ c.slice_known-2-1.given)
-    (byte_fit _ c.slice_known-3-1.given)
+    (byte_fit _ (search rules))
+    (slice_fit w _ (search rules))
+    (byte_fit _ (search rules))
+    (byte_fit _ (search rules))
+    (byte_fit _ (search rules))
     c.locker_aes_expand32-made.ensures
     c.if-made-ne0.true
 
@@ -21,11 +21,11 @@ pub returns-then-number-ne0 : goal.returns-then-number-ne0
 returns-then-number-ne0 c =
     let a = c.args in
     encrypt_stops w a.key.now a.schedule.now a.input.now a.sealed.now a.opened.now
-    (byte_fit _ c.shared_slice_known-1.given)
-    (slice_fit w _ c.slice_known-1.given)
-    (byte_fit _ c.shared_slice_known-2-1.given)
-    (byte_fit _ c.slice_known-2-1.given)
-    (byte_fit _ c.slice_known-3-1.given)
+    (byte_fit _ (search rules))
+    (slice_fit w _ (search rules))
+    (byte_fit _ (search rules))
+    (byte_fit _ (search rules))
+    (byte_fit _ (search rules))
     c.locker_aes_expand32-made.ensures
     c.locker_aes_encrypt32-number.ensures
     c.if-number-ne0.true
@@ -34,11 +34,11 @@ pub returns : goal.returns
 returns c =
     let a = c.args in
     schedule_back w a.key.now a.schedule.now a.input.now a.sealed.now a.opened.now
-    (byte_fit _ c.shared_slice_known-1.given)
-    (slice_fit w _ c.slice_known-1.given)
-    (byte_fit _ c.shared_slice_known-2-1.given)
-    (byte_fit _ c.slice_known-2-1.given)
-    (byte_fit _ c.slice_known-3-1.given)
+    (byte_fit _ (search rules))
+    (slice_fit w _ (search rules))
+    (byte_fit _ (search rules))
+    (byte_fit _ (search rules))
+    (byte_fit _ (search rules))
     c.locker_aes_expand32-made.ensures
     c.locker_aes_encrypt32-number.ensures
     c.locker_aes_decrypt32.ensures

@@ -8,5 +8,5 @@ use Rattle.lanes.proofs.Packing.{broadcasts}
 
 pub returns : goal.returns
 returns c =
-    let fit = byte_fit c.args.block.now c.shared_slice_known-1.given in
+    let fit = byte_fit c.args.block.now (search rules) in
     broadcasts w fit c.requires c.load_repeated.ensures c.bitslice_swaps.ensures

@@ -8,5 +8,5 @@ use Rattle.lanes.proofs.Packing.{packs}
 
 pub returns : goal.returns
 returns c =
-    let fit = byte_fit c.args.input.now c.shared_slice_known-1.given in
+    let fit = byte_fit c.args.input.now (search rules) in
     packs w fit c.requires c.load_blocks.ensures c.bitslice_swaps.ensures
