@@ -5,19 +5,20 @@
 set -eu
 cd "$(dirname "$0")/.."
 rt=${RT:-rt}
+export RT="$rt" # for tools/archive.sh
 cc=${CC:-cc}
 header=include/locker_aes.h
 proved=target/staticlib/libhost.a
 shared=target/lib/liblocker_aes.so.$(sed -n 's/^#define LOCKER_AES_ABI  *\([0-9]*\).*/\1/p' $header)
 log=target/log/build.log
-pinned="rattle-kit-5b logic 064da1ca440f63e7" # the kit that this repository was proved with
+pinned="rattle-kit-13f logic dac8208d650f15bf" # the kit that this repository was proved with
 
 fail() {
     echo "build: $*" >&2
     exit 1
 }
 
-# The crates that host rests on, each behind its own dependencies; host is the last.
+# The crates that host_c rests on, each behind its own dependencies; host_c is the last.
 crates=$(awk '
     function visit(n,    a, k, m) {
         if (n in seen || !(n in deps)) return
@@ -26,9 +27,9 @@ crates=$(awk '
         for (k = 1; k <= m; k++) visit(a[k])
         print n
     }
-    { sub(/#.*/, ""); i = index($0, ":") }
-    i { n = substr($0, 1, i - 1); gsub(/[ \t]/, "", n); deps[n] = substr($0, i + 1) }
-    END { visit("host") }' crates.txt)
+    { sub(/#.*/, ""); sub(/^[ \t]+/, ""); i = index($0, ":") }
+    i { split($0, words, /[ \t:]+/); deps[words[1]] = substr($0, i + 1) }
+    END { visit("host_c") }' crates.txt)
 count=$(echo "$crates" | grep -c .)
 
 # newer FILE PATH..: one of the paths, or a file below one, is newer than the file
@@ -71,41 +72,37 @@ case $($cc -dumpmachine) in
 esac
 [ "$kit" = "$pinned" ] || echo "build: note: the kit is '$kit'; this repository was proved with '$pinned'"
 
-prove() {
-    # shellcheck disable=SC2046 # one word for each crate
-    "$rt" check $(echo "$crates" | grep -vx host) || return
-    began=$(date +%s)
-    "$rt" staticlib host || return
-    echo "build: host ($(($(date +%s) - began)) s)" # rt gives the others' seconds itself
-}
-
-# One line for each crate out of all that is said.
+# One line for each crate out of all that is said: what rt says of a crate begins with `== NAME` and comes at once, when the crate is done, and
+# nothing is said of one that has not changed. The seconds are since the start.
 progress() {
     k=0
-    told=' '
+    name=
+    began=$(date +%s)
     while IFS= read -r line; do
         case $line in
-            'rt: '*' proved ('*) name=${line#rt: } ;;
-            'build: '*) name=${line#build: } ;;
-            *) continue ;;
+            '== '*) tell; name=${line#== } ;;
+            'logic=proved '*) tell ;;
+            'logic=not-proved'*) name= ;;
         esac
-        name=${name%% *}
-        case $told in *" $name "*) continue ;; esac
-        told="$told$name "
-        k=$((k + 1))
-        case $line in *' s)') took=${line##*(} ;; *) took='unchanged)' ;; esac
-        echo "build: $k of $count: $name, ${took%)}"
     done
+    tell
+}
+
+tell() {
+    case $name in '' | summary) return ;; esac
+    k=$((k + 1))
+    echo "build: $k of $count: $name, $(($(date +%s) - began)) s"
+    name=
 }
 
 if ! is_proved; then
-    # due is what has changed and what rests on that; host is always proved as it is compiled
+    # due is what has changed and what rests on that; host_c, which no crate takes as a library, has no stamp
     due=' '
     for crate in $crates; do
-        stamp=target/stamp/$crate
+        stamp=crates/$crate/out/rlib/stamp
         again=no
-        if [ "$crate" = host ] || [ ! -f "$stamp" ] || changed "$crate" "$stamp"; then again=yes; fi
-        deps=$(sed -n "s/#.*//; s/^$crate *://p" crates.txt)
+        if [ ! -f "$stamp" ] || changed "$crate" "$stamp"; then again=yes; fi
+        deps=$(sed -n "s/#.*//; s/^$crate *\(staticlib\)* *://p" crates.txt)
         for dep in $deps; do
             case $due in *" $dep "*) again=yes ;; esac
         done
@@ -116,12 +113,12 @@ if ! is_proved; then
         "$(((n + 1) / 2)) min or so, more on a busy machine"
     mkdir -p target/log
     if [ "${V:-0}" != 0 ]; then
-        prove || fail "not proved"
+        tools/archive.sh || fail "not proved"
     else
         # the status of a pipe's first part is lost, so a file carries it
         {
             status=0
-            prove || status=$?
+            tools/archive.sh || status=$?
             echo $status >$log.status
         } 2>&1 | tee $log | progress
         [ "$(cat $log.status)" -eq 0 ] || {

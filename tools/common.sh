@@ -1,6 +1,6 @@
 # shellcheck shell=sh disable=SC2034,SC2154 # top comes from the script that sources this, and what is set here is for it
 # Sourced by the run scripts, after they set `top` to the repository's folder. It sets
-#   lib      the static library under test, from LOCKER_AES_LIB (default: what `rt staticlib host` writes)
+#   lib      the static library under test, from LOCKER_AES_LIB (default: what tools/archive.sh makes)
 #   out      a folder for what the script builds, target/NAME of the script's own folder
 #   CC, CXX  the compilers (default gcc and g++)
 # and goes to the top.
@@ -39,7 +39,8 @@ need() {
 
 # What every test needs: the static library, and C and C++ to link it with.
 need_library() {
-    [ -f "$lib" ] || fail "no static library at $lib (make it by: rt staticlib host)"
+    [ -f "$lib" ] || [ -n "${LOCKER_AES_LIB:-}" ] || tools/archive.sh >"$out/archive.log" 2>&1 || fail "tools/archive.sh failed; $out/archive.log says why"
+    [ -f "$lib" ] || fail "no static library at $lib"
     need "${CC%% *}" gcc
     need "${CXX%% *}" g++
 }

@@ -41,7 +41,7 @@ sys.exit(0 if pairs else print("bad edit: no pair of lines 'old:' and 'new:'") o
 END_OF_PYTHON
 status=$?
 [ $status -ne 0 ] || {
-    (cd "$tree/crates/$crate" && rt check) >>"$log" 2>&1 </dev/null
+    (cd "$tree/crates/$crate" && "${RT:-rt}" check --jobs 1) >>"$log" 2>&1 </dev/null
     status=$?
 }
 echo "exit $status" >>"$log"

@@ -6,7 +6,8 @@
 top=$(cd "$(dirname "$0")/../.." && pwd)
 . "$top/tools/common.sh"
 unset GATE_ALLOW_SKIP LOCKER_AES_LIB
-tree=$out/gate
+tree=$(mktemp -d) # rt ci refuses sources below target/
+trap 'rm -rf "$tree"' EXIT
 last='5 passed, 0 failed'
 count=0
 
@@ -17,35 +18,45 @@ script() {
     chmod +x "$1"
 }
 
+# edit LINE..: the must-fail edit of the only crate, with these lines before its fault.
+edit() {
+    { printf '%s\n' "$@"; printf '%s\n' 'file: src/lib.rt' 'old: a' 'new: b'; } >"$tree/crates/one/must-fail/edit.edit"
+}
+
 stubs() {
-    rm -rf "$tree"
-    mkdir -p "$tree/.ci" "$tree/tools" "$tree/crates/one/must-fail"
+    mkdir -p "$tree/.ci" "$tree/tools" "$tree/crates/one/must-fail" "$tree/crates/one/src" "$tree/crates/host_c"
     cp .ci/run "$tree/.ci/run"
-    cp tools/judge-edits.sh "$tree/tools/"
-    echo 'refused: w64::f' >"$tree/crates/one/must-fail/edit.edit"
+    cp tools/archive.sh tools/judge-edits.sh tools/try-edit.sh "$tree/tools/"
+    echo 'one:' >"$tree/crates.txt"
+    echo 'a' >"$tree/crates/one/src/lib.rt"
+    edit '# refused: w64::f'
     echo 'exit "${STUB_CHECK:-0}"' | script "$tree/tools/check-stub.sh"
     sed -n "/^runs='/,/^'/p" .ci/run | sed '1d; $d' | while read -r run _; do
         echo '[ -z "${LOCKER_AES_LIB:-}" ] && echo ok stub' | script "$tree/$run"
     done
     echo 'echo "${STUB_SAYS:-ok stub}"; exit "${STUB_RUN:-0}"' | script "$tree/tests/oracle/run.sh"
+    # `rt check` finds the fault only where the edit was made
     script "$tree/bin/rt" <<'END'
 case $1 in
-    fmt) exit "${STUB_FMT:-0}" ;;
     ci)
-        mkdir -p target/must-fail/one/edit
-        refusal='one/edit/proofs/w64/f/Proof.antt:1:1: error: `returns`: they differ'
-        [ -n "${STUB_UNTRIED:-}" ] || printf '%s\n' "${STUB_LOG:-$refusal}" >target/must-fail/one/edit/.log
         echo "proving"
+        echo "rt: ${STUB_OK:-ok; handles allowed: none; must-fail edits: 1 refused; every proof was done in this run}"
         echo "${STUB_LAST:-5 passed, 0 failed}"
         exit "${STUB_CI:-0}"
         ;;
-    staticlib) mkdir -p target/staticlib && : >target/staticlib/libhost.a && exit "${STUB_LIB:-0}" ;;
+    lib) mkdir -p out && : >out/libhost_c.a && exit "${STUB_LIB:-0}" ;;
+    check)
+        grep -qx b src/lib.rt || exit 0
+        refusal='./proofs/w64/f/Answers.antt:1:1: error: `returns`: they differ'
+        printf '%s\n' "so far: $refusal" "${STUB_LOG:-$refusal}" "logic=${STUB_LOGIC:-not-proved}"
+        exit "${STUB_TRIED:-1}"
+        ;;
 esac
 END
 }
 
 gate() { # NAME=VALUE..
-    rm -rf "$tree/target"
+    rm -rf "$tree/target" "$tree/crates/host_c/out"
     env PATH="$tree/bin:$PATH" "$@" "$tree/.ci/run" >"$out/said" 2>&1
 }
 
@@ -75,33 +86,43 @@ passes STUB_SAYS='skipped: stub' GATE_ALLOW_SKIP=1
 fails 'a run was skipped' STUB_SAYS='skipped: stub'
 fails 'did not end in a line that says ok' STUB_SAYS='done'
 fails 'tests/oracle/run.sh failed' STUB_RUN=1
-fails 'rt fmt --check failed' STUB_FMT=1
 fails 'tools/check-stub.sh failed' STUB_CHECK=1
 fails 'rt ci failed' STUB_LAST='0 passed, 0 failed'
 fails 'rt ci failed' STUB_LAST='5 passed, 1 failed'
 fails 'rt ci failed' STUB_LAST='5 crates proved'
 fails 'rt ci failed' STUB_CI=1
-at=one/edit/proofs
-passes STUB_LOG='fn one::w64::f: no proof: expected `f-spec`; `search` does not close `returns`'
-fails 'shows nothing' STUB_LOG="$at/w64/f/Proof.antt:1:1: error: \`returns\`: the record has no \`Need-3\`"
-fails 'shows nothing' STUB_LOG="$at/w64/f/Proof.antt:1:1: error: \`returns\`: expected type \`tie.Need-2\`"
-fails 'shows nothing' STUB_LOG="$at/w64/f/Proof.antt:1:1: error: \`f-spec\`: \`close\` was not admitted"
-fails 'shows nothing' STUB_LOG="$at/w64/g/Proof.antt:1:1: error: \`returns\`: they differ"
-fails 'shows nothing' STUB_LOG='fn one::w64::f: not proved; it calls `one::w64::g`, which is not proved'
-fails 'shows nothing' STUB_LOG='logic=not-proved'
-fails 'shows nothing' STUB_UNTRIED=1
-echo 'refused: w64::f returns' >"$tree/crates/one/must-fail/edit.edit"
+fails "no line 'rt: ok'" STUB_OK='FAILED: one'
+fails 'of 1 must-fail edits rt ci refused none' STUB_OK='ok; handles allowed: none; every proof was done in this run'
+fails 'of 1 must-fail edits rt ci refused 0' STUB_OK='ok; handles allowed: none; must-fail edits: 0 refused, 1 bad; every'
+fails 'bad must-fail edits' STUB_OK='ok; handles allowed: none; must-fail edits: 1 refused, 1 bad; every'
+fails 'tools/archive.sh failed' STUB_LIB=1
+at=./proofs
+passes STUB_LOG='fn one::w64::f: no proof: expected answers in ./proofs/w64/f/Answers.antt; `search` did not prove `returns`'
+fails 'shows nothing' STUB_LOG="$at/w64/f/Answers.antt:1:1: error: \`returns\`: record \`Lts.Past\` has no field \`ror\`"
+fails 'shows nothing' STUB_LOG="$at/w64/f/Answers.antt:1:1: error: \`returns-2\`: module \`Goals\` has no \`returns-2\` that can be named"
+fails 'shows nothing' STUB_LOG="$at/w64/f/Answers.antt:1:1: error: \`returns\`: \`close\` was not admitted"
+fails 'shows nothing' STUB_LOG="$at/w64/g/Answers.antt:1:1: error: \`returns\`: they differ"
+fails 'shows nothing' STUB_LOG="$at/w64/f/Answers.antt:1:1: error: 1 declaration that depends on \`start\` was not checked: returns"
+fails 'shows nothing' STUB_LOG='fn one::w64::f: no proof: it calls `one::w64::g`, which is not proved'
+fails 'shows nothing' STUB_LOG='fn one::w64::f: not proved'
+fails 'shows nothing' STUB_LOGIC=proved
+fails 'shows nothing' STUB_TRIED=0
+fails 'shows nothing' STUB_TRIED=3
+edit '# refused: w64::f returns'
 passes GATE_ALLOW_SKIP=
-fails 'shows nothing' STUB_LOG="$at/w64/f/Proof.antt:1:1: error: \`loop-holds\`: they differ"
-echo 'refused: Laws stop' >"$tree/crates/one/must-fail/edit.edit"
+passes STUB_LOG='fn one::w64::f: no proof: expected answers in ./proofs/w64/f/Answers.antt; `search` did not prove `returns`'
+fails 'shows nothing' STUB_LOG='fn one::w64::f: no proof: expected answers in ./proofs/w64/f/Answers.antt; `search` did not prove `returns-2`'
+fails 'shows nothing' STUB_LOG="$at/w64/f/Answers.antt:1:1: error: \`again\`: they differ"
+edit '# refused: Laws stop'
 passes STUB_LOG="$at/Laws.antt:1:1: error: \`stop\`: they differ"
 fails 'shows nothing' STUB_LOG="$at/Laws.antt:1:1: error: \`pass\`: they differ"
-printf '%s\n' 'refused: Laws stop' 'old: a' '' 'old: b' >"$tree/crates/one/must-fail/edit.edit"
-fails 'shows nothing' STUB_LOG="$at/Laws.antt:1:1: error: \`stop\`: they differ"
-: >"$tree/crates/one/must-fail/edit.edit"
-fails 'shows nothing' STUB_LOG="$at/w64/f/Proof.antt:1:1: error: \`returns\`: they differ"
-echo 'refused: w64::f' >"$tree/crates/one/must-fail/edit.edit"
-fails 'rt staticlib host failed' STUB_LIB=1
+edit '# refused: Laws stop' 'old: c' 'new: d'
+fails 'shows nothing' STUB_LOG="$at/Laws.antt:1:1: error: \`stop\`: they differ" # it stands nowhere
+edit '# refused: Laws stop' 'file: src/lib.rt' 'old: a' 'new: c' '' 'old: c' 'new: a' ''
+fails 'shows nothing' STUB_LOG="$at/Laws.antt:1:1: error: \`stop\`: they differ" # a fault that names no place
+edit '# A fault.'
+fails 'shows nothing' GATE_ALLOW_SKIP=
+edit '# refused: w64::f'
 rm "$tree/tests/oracle/run.sh"
 fails 'is listed, and there is no such script' GATE_ALLOW_SKIP=1
 [ "${1:-}" = stubs ] || LOCKER_AES_LIB=$lib tests/faults/run.sh '(in the gate)'

@@ -1,10 +1,15 @@
 # shellcheck shell=sh disable=SC2154 # sourced by run.sh, which sets out and lib
 # tools/build.sh over a stand-in for rt: what it says, when it builds again, and how it fails.
-tree=$out/tree
-rm -rf "$tree"
+tree=$(mktemp -d) # rt refuses sources below target/
+trap 'rm -rf "$tree"' EXIT
 mkdir -p "$tree/tools"
-cp -R crates crates.txt include "$tree/"
-cp tools/build.sh "$tree/tools/"
+cp -R crates.txt include "$tree/"
+for part in crates/*/src crates/*/specs crates/*/proofs; do
+    [ -d "$part" ] || continue
+    mkdir -p "$tree/$part"
+    cp -R "$part/." "$tree/$part"
+done
+cp tools/build.sh tools/archive.sh "$tree/tools/"
 kit=$(sed -n 's/^pinned="\(.*\)".*/\1/p' tools/build.sh)
 
 # build WHAT STATUS LINES PATTERN [NAME=VALUE..]: the status is this, so many lines are said (-: any number), and the pattern
@@ -26,15 +31,15 @@ build() {
 build "without rt" 1 1 "no 'no-such-rt': the command of the Rattle kit ($kit)" RT=no-such-rt
 build "without a C compiler" 1 1 "no C compiler 'no-such-cc'" CC=no-such-cc
 [ ! -e "$tree/target" ] || fail "tools/build.sh began before it looked for what it needs"
-build "the first time" 0 - '^build: \([0-9]*\) of \1: host, '
+build "the first time" 0 - '^build: \([0-9]*\) of \1: host_c, '
 crates=$(sed -n 's/^build: the library rests on \([0-9]*\) crates; up to \1 are proved now.*/\1/p' "$out/said")
 [ "$(grep -c '^build: [0-9]* of ' "$out/said")" = "$crates" ] || fail "tools/build.sh showed no line for each crate: $(cat "$out/said")"
 build "again" 0 0 ""
 sleep 0.1 # so that the times differ
 touch "$tree/crates/sbox/src/lib.rt"
-build "after a source was touched" 0 - "of $crates: host, "
+build "after a source was touched" 0 - "of $crates: host_c, "
 build "with another kit" 0 - "note: the kit is 'another kit'" STAND_IN_KIT="another kit"
-build "with the kit again" 0 - "of $crates: host, "
+build "with the kit again" 0 - "of $crates: host_c, "
 sleep 0.1
 touch "$tree/crates.txt"
-build "when a crate is not proved" 1 - "cipher NOT PROVED" STAND_IN_FAILS=cipher
+build "when a crate is not proved" 1 - "cipher: failed (1)" STAND_IN_FAILS=cipher
