@@ -38,6 +38,7 @@ pub fn zero_key(key: &[u8]) -> bool
 }
 
 // Whether so many bytes are taken as blocks in one call: 16 to 65,536, a multiple of 16.
+#[tactic(auto, using(calls::proofs::WholeBlocks::too_short, calls::proofs::WholeBlocks::too_long, calls::proofs::WholeBlocks::by_rest))]
 pub fn whole_blocks(bytes: usize) -> bool
     ensures { result ≡ whole_blocks bytes }
 {

@@ -17,7 +17,7 @@ pub returns-then-direction-eq0 : goal.returns-then-direction-eq0
 returns-then-direction-eq0 c =
     door_crypts c.args.key.now c.requires.keyed (byte_fit c.args.key.now c.type_inv.key) cipher
     c.args.input.now c.args.direction
-    (encrypts c.args.direction c.if-direction-eq0.true) c.requires.rounds_are c.key_schedule.ensures c.encrypt.ensures
+    (encrypts c.args.direction (search rules)) c.requires.rounds_are c.key_schedule.ensures c.encrypt.ensures
 
 pub decrypt-requires : goal.decrypt-requires
 decrypt-requires c =
@@ -31,4 +31,4 @@ pub returns : goal.returns
 returns c =
     door_crypts c.args.key.now c.requires.keyed (byte_fit c.args.key.now c.type_inv.key) inv_cipher
     c.args.input.now c.args.direction
-    (decrypts c.args.direction c.if-direction-eq0.false) c.requires.rounds_are c.key_schedule.ensures c.decrypt.ensures
+    (decrypts c.args.direction (search rules)) c.requires.rounds_are c.key_schedule.ensures c.decrypt.ensures
