@@ -1,6 +1,6 @@
 -- The check of a linear word program against its meaning on blocks: the program and the meaning run side by side on sums of named bits,
 -- in all slots, and where the sums are the same (a computed test) the numbers are (`law`). Assumes nothing.
-use mathlib.Core.Path.{◌≡◌, sym, ◌∙◌}
+use mathlib.Core.Path.{◌≡◌, ◌∙◌}
 use mathlib.Core.List.{List, [], ◌∷◌, map}
 use mathlib.Core.Bool.{Bool, true, ◌&&◌}
 use Prim.Native.Nat.{ℕ, zero, suc, ◌*◌, ◌/◌, ◌%◌, ◌≤◌, ◌<◌}
