@@ -2,7 +2,7 @@
 // that was lent is not as it was, `spilled` where what lies past it is not. tools/limits_expected.py states the table and made the file stdout.
 #![tactic(auto)]
 
-mod calls;
+mod call_lines;
 mod lengths;
 mod w32;
 mod w64;
@@ -11,7 +11,7 @@ use std::io;
 
 fn expands(rt: &impl Print, bits: usize) -> io::Result<()> {
     for i in 0..72 {
-        calls::expand(
+        call_lines::expand(
             rt,
             bits,
             0x11,
@@ -25,7 +25,7 @@ fn expands(rt: &impl Print, bits: usize) -> io::Result<()> {
 // Keys of zeros, of each length from 0 to 40.
 fn zeros_expand(rt: &impl Print, bits: usize) -> io::Result<()> {
     for i in 0..328 {
-        calls::expand(rt, bits, 0, i / 8, lengths::schedule(i % 8))?;
+        call_lines::expand(rt, bits, 0, i / 8, lengths::schedule(i % 8))?;
     }
     Ok(())
 }
@@ -34,14 +34,14 @@ fn crypts(rt: &impl Print, bits: usize, decrypts: bool) -> io::Result<()> {
     for i in 0..456 {
         let input = lengths::input(i / 3 % 19);
         let output = lengths::output(i % 3, input);
-        calls::crypt(rt, bits, decrypts, lengths::schedule(i / 57), input, output)?;
+        call_lines::crypt(rt, bits, decrypts, lengths::schedule(i / 57), input, output)?;
     }
     Ok(())
 }
 
 fn check_values(rt: &impl Print, bits: usize) -> io::Result<()> {
     for i in 0..40 {
-        calls::check_value(rt, bits, lengths::schedule(i / 5), i % 5)?;
+        call_lines::check_value(rt, bits, lengths::schedule(i / 5), i % 5)?;
     }
     Ok(())
 }
@@ -50,7 +50,7 @@ fn doors(rt: &impl Print) -> io::Result<()> {
     for i in 0..2052 {
         let input = lengths::input(i / 3 % 19);
         let output = lengths::output(i % 3, input);
-        calls::door(
+        call_lines::door(
             rt,
             lengths::direction(i / 513),
             0x11,
@@ -65,7 +65,7 @@ fn doors(rt: &impl Print) -> io::Result<()> {
 // Keys of zeros, of each length from 0 to 40, with a right and a wrong direction, input and output.
 fn zeros_at_door(rt: &impl Print) -> io::Result<()> {
     for i in 0..328 {
-        calls::door(
+        call_lines::door(
             rt,
             lengths::direction(i / 4 % 2 * 2),
             0,

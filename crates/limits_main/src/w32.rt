@@ -16,7 +16,7 @@ fn filled() -> [Word; 122] {
 fn expand_in(space: &mut [Word], x: u8, key: usize, words: usize) -> u32
     requires { (words ≤ length space.old) × (key ≤ 40) }
 {
-    let bytes = super::calls::bytes(x);
+    let bytes = super::call_lines::bytes(x);
     public::expand(&bytes[0..key], &mut space[0..words])
 }
 
@@ -28,14 +28,14 @@ pub fn expand(rt: &impl Print, x: u8, key: usize, words: usize) -> io::Result<()
     let number = expand_in(&mut space, x, key, words);
     let kept = space[0..words] == before[0..words];
     let apart = space[words..] == before[words..];
-    super::calls::say_answer(rt, number, kept, apart)
+    super::call_lines::say_answer(rt, number, kept, apart)
 }
 
 pub fn crypt(decrypts: bool, words: usize, input: usize, output: &mut [u8]) -> u32
     requires { (input ≤ 65552) × (words ≤ 121) }
 {
     let schedule = filled();
-    let blocks = super::calls::bytes(0x22);
+    let blocks = super::call_lines::bytes(0x22);
     if decrypts {
         public::decrypt(&schedule[0..words], &blocks[0..input], output)
     } else {
