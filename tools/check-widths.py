@@ -20,9 +20,7 @@ EXCEPTIONS = {
     "crates/word/src/blocks32.rt": "a column is a word of 32 bits; half a block is one of 64, and the two halves are swapped",
     "crates/word/proofs/blocks32": "the proofs of that",
     "crates/uses/proofs/w32": "the exported calls have their width in their names, and a proof names a call's facts by the call",
-    "crates/hex/src/w32.rt": "a number of 64 bits is a word as it stands; a word of 32 bits is cut from one and widened again",
-    "crates/hex/proofs/w32/read": "the proof of that",
-    "crates/hex/proofs/w32/print": "the proof of that",
+    "crates/hex_text/src/w32.rt": "a number of 64 bits is a word as it stands; a word of 32 bits is cut from one and widened again",
 }
 
 DECLARATION = re.compile(r"(?:pub )?(?:const|type) (\w+)\b.*;$")

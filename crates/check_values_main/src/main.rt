@@ -7,7 +7,7 @@ mod w64;
 
 ghost use Rattle.std.specs.Prelude.{◌≤◌};
 
-use libc::STDIN_FILENO;
+use std::io;
 
 // 1 where the key has this check value at so many bits, else 0.
 fn agrees(bits: usize, key: &[u8], value: &[u8]) -> usize
@@ -26,13 +26,13 @@ fn agrees(bits: usize, key: &[u8], value: &[u8]) -> usize
 fn record_by(key: &mut [u8], line: &[u8]) -> usize
     ensures { result ≤ 2 }
 {
-    let digits = hex::field(line, 1);
+    let digits = hex_text::field(line, 1);
     if digits.len() != 6 {
         return 0;
     }
     let mut value = [0u8; 3];
-    hex::read(digits, &mut value);
-    hex::read(hex::field(line, 0), key);
+    hex_text::read(digits, &mut value);
+    hex_text::read(hex_text::field(line, 0), key);
     agrees(32, key, &value) + agrees(64, key, &value)
 }
 
@@ -40,29 +40,29 @@ fn record(line: &[u8]) -> usize
     ensures { result ≤ 2 }
 {
     let mut key = [0u8; 32];
-    let n = hex::field(line, 0).len() / 2;
+    let n = hex_text::field(line, 0).len() / 2;
     if n > 32 {
         return 0;
     }
     record_by(&mut key[0..n], line)
 }
 
-fn report(keys: usize, agreed: usize, failing: usize) {
-    hex::say_count(b"keys ", keys);
-    hex::say_count(b"\nvalues that agreed, two of a key ", agreed);
+fn report(rt: &impl Print, keys: usize, agreed: usize, failing: usize) -> io::Result<()> {
+    hex_text::say_count(rt, b"keys ", keys)?;
+    hex_text::say_count(rt, b"\nvalues that agreed, two of a key ", agreed)?;
     if failing > 0 {
-        hex::say_count(b"\nfirst to differ: key ", failing);
+        hex_text::say_count(rt, b"\nfirst to differ: key ", failing)?;
     }
-    hex::say(b"\n");
+    hex_text::say(rt, b"\n")
 }
 
-fn all(text: &[u8]) {
+fn all(rt: &impl Print, text: &[u8]) -> io::Result<()> {
     let mut keys = 0;
     let mut agreed = 0;
     let mut failing = 0;
     let mut at = 0;
     while at < text.len() {
-        let end = hex::find(text, at, b'\n');
+        let end = hex_text::find(text, at, b'\n');
         let found = record(&text[at..end]);
         keys += 1;
         agreed += found;
@@ -71,11 +71,11 @@ fn all(text: &[u8]) {
         }
         at = end + 1;
     }
-    report(keys, agreed, failing);
+    report(rt, keys, agreed, failing)
 }
 
-fn main() {
-    let mut space = io::large_buffer();
-    let n = io::read_full(STDIN_FILENO, &mut space);
-    all(&space[..n]);
+fn main(rt: HostRuntime) -> io::Result<()> {
+    let mut space = [0u8; 65536];
+    let n = hex_text::read_full(&mut rt.stdin(), &mut space)?;
+    all(&rt, &space[..n])
 }

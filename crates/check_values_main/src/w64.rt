@@ -15,7 +15,7 @@ fn checks_by(schedule: &mut [Word], key: &[u8], right: &[u8]) -> bool {
     if public::check_value(schedule, &mut value) != 0 {
         return false;
     }
-    check::same(&value, right)
+    value.as_slice() == right
 }
 
 // Whether a key expands and has this check value.

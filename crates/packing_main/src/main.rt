@@ -6,30 +6,31 @@
 mod w32;
 mod w64;
 
-use libc::STDIN_FILENO;
+use std::io;
 
-fn one(line: &[u8]) {
-    hex::say(line);
-    hex::say(b"\n");
-    let digits = hex::field(line, 1);
+fn one(rt: &impl Print, line: &[u8]) -> io::Result<()> {
+    hex_text::say(rt, line)?;
+    hex_text::say(rt, b"\n")?;
+    let digits = hex_text::field(line, 1);
     match digits.len() {
-        64 => w32::both_ways(digits),
-        128 => w64::both_ways(digits),
-        _ => hex::say(b"neither 64 digits nor 128\n"),
+        64 => w32::both_ways(rt, digits),
+        128 => w64::both_ways(rt, digits),
+        _ => hex_text::say(rt, b"neither 64 digits nor 128\n"),
     }
 }
 
-fn all(text: &[u8]) {
+fn all(rt: &impl Print, text: &[u8]) -> io::Result<()> {
     let mut at = 0;
     while at < text.len() {
-        let end = hex::find(text, at, b'\n');
-        one(&text[at..end]);
+        let end = hex_text::find(text, at, b'\n');
+        one(rt, &text[at..end])?;
         at = end + 1;
     }
+    Ok(())
 }
 
-fn main() {
-    let mut space = io::buffer();
-    let n = io::read_full(STDIN_FILENO, &mut space);
-    all(&space[..n]);
+fn main(rt: HostRuntime) -> io::Result<()> {
+    let mut space = [0u8; 4096];
+    let n = hex_text::read_full(&mut rt.stdin(), &mut space)?;
+    all(&rt, &space[..n])
 }

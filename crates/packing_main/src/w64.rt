@@ -1,5 +1,5 @@
 // Four blocks in eight words of 64 bits.
-use hex::w64 as words;
+use hex_text::w64 as words;
 use word::w64 as packing;
 
 type Word = u64;
@@ -8,30 +8,32 @@ type Word = u64;
 const BATCH: usize = 64;
 
 // ---- the same at both widths
+use std::io;
+
 // A batch packed, and unpacked again.
-fn packed(digits: &[u8]) {
+fn packed(rt: &impl Print, digits: &[u8]) -> io::Result<()> {
     let mut bytes = [0u8; BATCH];
-    hex::read(digits, &mut bytes);
+    hex_text::read(digits, &mut bytes);
     let state = packing::bitslice(&bytes);
-    words::print(&state);
+    words::print(rt, &state)?;
     packing::inv_bitslice(state, &mut bytes);
-    hex::print(&bytes);
-    hex::say(b"\n");
+    hex_text::print(rt, &bytes)?;
+    hex_text::say(rt, b"\n")
 }
 
 // Eight words unpacked, and packed again.
-fn unpacked(digits: &[u8]) {
+fn unpacked(rt: &impl Print, digits: &[u8]) -> io::Result<()> {
     let mut state: [Word; 8] = [0; 8];
     words::read(digits, &mut state);
     let mut bytes = [0u8; BATCH];
     packing::inv_bitslice(state, &mut bytes);
-    hex::print(&bytes);
-    hex::say(b"\n");
+    hex_text::print(rt, &bytes)?;
+    hex_text::say(rt, b"\n")?;
     let again = packing::bitslice(&bytes);
-    words::print(&again);
+    words::print(rt, &again)
 }
 
-pub fn both_ways(digits: &[u8]) {
-    packed(digits);
-    unpacked(digits);
+pub fn both_ways(rt: &impl Print, digits: &[u8]) -> io::Result<()> {
+    packed(rt, digits)?;
+    unpacked(rt, digits)
 }

@@ -7,12 +7,12 @@ mod w64;
 
 ghost use Rattle.std.specs.Prelude.{◌<◌};
 
-use libc::STDIN_FILENO;
+use std::io;
 
 // Whether a key, field 1, has the schedule of field 2.
 fn expands_by(key: &mut [u8], line: &[u8], wide: bool) -> bool {
-    hex::read(hex::field(line, 1), key);
-    let digits = hex::field(line, 2);
+    hex_text::read(hex_text::field(line, 1), key);
+    let digits = hex_text::field(line, 2);
     if wide {
         w64::expands(key, digits)
     } else {
@@ -22,7 +22,7 @@ fn expands_by(key: &mut [u8], line: &[u8], wide: bool) -> bool {
 
 fn expands(line: &[u8], wide: bool) -> bool {
     let mut key = [0u8; 32];
-    let n = hex::field(line, 1).len() / 2;
+    let n = hex_text::field(line, 1).len() / 2;
     if n > 32 {
         return false;
     }
@@ -50,12 +50,12 @@ fn gives_by(
 ) -> bool
     requires { (at < 3) × (which < 3) }
 {
-    hex::read(hex::field(line, at + 1), input);
-    hex::read(hex::field(line, at + 2 + which), right);
-    if call(wide, hex::field(line, at), which, input, output) != 0 {
+    hex_text::read(hex_text::field(line, at + 1), input);
+    hex_text::read(hex_text::field(line, at + 2 + which), right);
+    if call(wide, hex_text::field(line, at), which, input, output) != 0 {
         return false;
     }
-    check::same(output, right)
+    output[..] == right[..]
 }
 
 // Room for a batch. A call, so that a goal says its result and not every byte.
@@ -69,8 +69,8 @@ fn gives(line: &[u8], wide: bool, at: usize, which: usize) -> bool
     let mut input = batch();
     let mut output = batch();
     let mut right = batch();
-    let m = hex::field(line, at + 1).len() / 2;
-    let n = hex::field(line, at + 2 + which).len() / 2;
+    let m = hex_text::field(line, at + 1).len() / 2;
+    let n = hex_text::field(line, at + 2 + which).len() / 2;
     if m > 64 {
         return false;
     }
@@ -108,22 +108,22 @@ fn agrees(line: &[u8]) -> bool {
     }
 }
 
-fn report(records: usize, agreed: usize, failing: usize) {
-    hex::say_count(b"records ", records);
-    hex::say_count(b"\nagreed ", agreed);
+fn report(rt: &impl Print, records: usize, agreed: usize, failing: usize) -> io::Result<()> {
+    hex_text::say_count(rt, b"records ", records)?;
+    hex_text::say_count(rt, b"\nagreed ", agreed)?;
     if failing > 0 {
-        hex::say_count(b"\nfirst to differ: record ", failing);
+        hex_text::say_count(rt, b"\nfirst to differ: record ", failing)?;
     }
-    hex::say(b"\n");
+    hex_text::say(rt, b"\n")
 }
 
-fn all(text: &[u8]) {
+fn all(rt: &impl Print, text: &[u8]) -> io::Result<()> {
     let mut records = 0;
     let mut agreed = 0;
     let mut failing = 0;
     let mut at = 0;
     while at < text.len() {
-        let end = hex::find(text, at, b'\n');
+        let end = hex_text::find(text, at, b'\n');
         records += 1;
         if agrees(&text[at..end]) {
             agreed += 1;
@@ -132,11 +132,11 @@ fn all(text: &[u8]) {
         }
         at = end + 1;
     }
-    report(records, agreed, failing);
+    report(rt, records, agreed, failing)
 }
 
-fn main() {
-    let mut space = io::large_buffer();
-    let n = io::read_full(STDIN_FILENO, &mut space);
-    all(&space[..n]);
+fn main(rt: HostRuntime) -> io::Result<()> {
+    let mut space = [0u8; 65536];
+    let n = hex_text::read_full(&mut rt.stdin(), &mut space)?;
+    all(&rt, &space[..n])
 }

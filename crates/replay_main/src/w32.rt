@@ -1,7 +1,7 @@
 // The public calls at 32 bits, under a schedule that is read from its digits; and the schedule of a key, a key of zeros too.
 use aes::w32 as public;
 use below::w32 as any_key;
-use hex::w32 as words;
+use hex_text::w32 as words;
 
 type Word = u32;
 
@@ -38,7 +38,7 @@ fn expands_by(made: &mut [Word], right: &mut [Word], key: &[u8], digits: &[u8]) 
     if !any_key::expands(key, made) {
         return false;
     }
-    words::same(made, right)
+    made[..] == right[..]
 }
 
 // Whether a key has the schedule of these digits.

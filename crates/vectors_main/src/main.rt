@@ -8,7 +8,7 @@ mod w64;
 
 ghost use Rattle.std.specs.Prelude.{◌≡◌, ◌+◌, ◌^◌, ◌<◌, ◌≤◌, length};
 
-use libc::STDIN_FILENO;
+use std::io;
 
 // The first so many bytes of the input through the calls at so many bits.
 fn crypt(bits: usize, key: &[u8], decrypts: bool, input: &[u8], output: &mut [u8]) -> u32
@@ -25,7 +25,7 @@ fn crypt(bits: usize, key: &[u8], decrypts: bool, input: &[u8], output: &mut [u8
 fn put(digits: &[u8], batch: &mut [u8], at: usize)
     requires { at + 16 ≤ length batch.old }
 {
-    hex::read(digits, &mut batch[at..at + 16]);
+    hex_text::read(digits, &mut batch[at..at + 16]);
 }
 
 // A batch of bytes x. A call, so that a goal says its result and not every byte.
@@ -40,14 +40,14 @@ fn passes(bits: usize, key: &[u8], line: &[u8], from: usize, slot: usize) -> usi
 {
     let at = 16 * slot;
     let mut input = batch(0xa5);
-    put(hex::field(line, from), &mut input, at);
+    put(hex_text::field(line, from), &mut input, at);
     let mut right = [0u8; 16];
-    hex::read(hex::field(line, 3 - from), &mut right);
+    hex_text::read(hex_text::field(line, 3 - from), &mut right);
     let mut output = batch(0x5a);
     if crypt(bits, key, from == 2, &input, &mut output) != 0 {
         return 0;
     }
-    if check::same(&output[at..at + 16], &right) {
+    if output[at..at + 16] == right[..] {
         1
     } else {
         0
@@ -76,7 +76,7 @@ struct Found {
 fn checks(key: &mut [u8], line: &[u8], number: usize) -> Found
     ensures { (result.passed ≤ 4) × (result.zeros ≤ 1) }
 {
-    hex::read(hex::field(line, 0), key);
+    hex_text::read(hex_text::field(line, 0), key);
     let passed = passes(32, key, line, 1, number % 2)
         + passes(32, key, line, 2, number % 2)
         + passes(64, key, line, 1, number % 4)
@@ -91,7 +91,7 @@ fn record(line: &[u8], number: usize) -> Found
     ensures { (result.passed ≤ 4) × (result.zeros ≤ 1) }
 {
     let mut key = [0u8; 32];
-    let n = hex::field(line, 0).len() / 2;
+    let n = hex_text::field(line, 0).len() / 2;
     if n > 32 {
         return Found {
             passed: 0,
@@ -101,20 +101,26 @@ fn record(line: &[u8], number: usize) -> Found
     checks(&mut key[0..n], line, number)
 }
 
-fn report(records: usize, passed: usize, zeros: usize, failing: usize)
+fn report(
+    rt: &impl Print,
+    records: usize,
+    passed: usize,
+    zeros: usize,
+    failing: usize,
+) -> io::Result<()>
     requires { records < 2 ^ 32 }
 {
-    hex::say_count(b"records ", records);
-    hex::say_count(b"\nchecks ", 4 * records);
-    hex::say_count(b"\npassed ", passed);
-    hex::say_count(b"\nkeys of zeros, refused by the public call ", zeros);
+    hex_text::say_count(rt, b"records ", records)?;
+    hex_text::say_count(rt, b"\nchecks ", 4 * records)?;
+    hex_text::say_count(rt, b"\npassed ", passed)?;
+    hex_text::say_count(rt, b"\nkeys of zeros, refused by the public call ", zeros)?;
     if failing > 0 {
-        hex::say_count(b"\nfirst to fail: record ", failing);
+        hex_text::say_count(rt, b"\nfirst to fail: record ", failing)?;
     }
-    hex::say(b"\n");
+    hex_text::say(rt, b"\n")
 }
 
-fn all(text: &[u8])
+fn all(rt: &impl Print, text: &[u8]) -> io::Result<()>
     requires { length text.now ≤ 131072 }
 {
     let mut records = 0;
@@ -123,7 +129,7 @@ fn all(text: &[u8])
     let mut failing = 0;
     let mut at = 0;
     while at < text.len() {
-        let end = hex::find(text, at, b'\n');
+        let end = hex_text::find(text, at, b'\n');
         let found = record(&text[at..end], records);
         records += 1;
         passed += found.passed;
@@ -133,7 +139,7 @@ fn all(text: &[u8])
         }
         at = end + 1;
     }
-    report(records, passed, zeros, failing);
+    report(rt, records, passed, zeros, failing)
 }
 
 // Room for the input. A call, so that a goal says its result and not so many zeros.
@@ -143,8 +149,8 @@ fn room() -> [u8; 131072]
     [0u8; 131072]
 }
 
-fn main() {
+fn main(rt: HostRuntime) -> io::Result<()> {
     let mut space = room();
-    let n = io::read_full(STDIN_FILENO, &mut space);
-    all(&space[..n]);
+    let n = hex_text::read_full(&mut rt.stdin(), &mut space)?;
+    all(&rt, &space[..n])
 }

@@ -2,52 +2,53 @@
 ghost use Rattle.std.specs.Prelude.{◌≡◌, ◌≤◌, length};
 
 use crate::{w32, w64};
+use std::io;
 
 // So many bytes x. A call, so that a goal says its result and not every byte.
 pub fn bytes(x: u8) -> [u8; 65570] {
     [x; 65570]
 }
 
-pub fn say_answer(number: u32, kept: bool, apart: bool) {
-    hex::say_count(b" -> ", number as usize);
+pub fn say_answer(rt: &impl Print, number: u32, kept: bool, apart: bool) -> io::Result<()> {
+    hex_text::say_count(rt, b" -> ", number as usize)?;
     if !apart {
-        hex::say(b" spilled\n");
+        hex_text::say(rt, b" spilled\n")
     } else if kept {
-        hex::say(b" kept\n");
+        hex_text::say(rt, b" kept\n")
     } else {
-        hex::say(b" written\n");
+        hex_text::say(rt, b" written\n")
     }
 }
 
 // The buffer was the first n of these bytes, which were all 5a.
-fn say_bytes(number: u32, space: &[u8], n: usize)
+fn say_bytes(rt: &impl Print, number: u32, space: &[u8], n: usize) -> io::Result<()>
     requires { (length space.now ≡ 65570) × (n ≤ 65570) }
 {
     let before = bytes(0x5a);
-    let kept = check::same(&space[0..n], &before[0..n]);
-    let apart = check::same(&space[n..], &before[n..]);
-    say_answer(number, kept, apart);
+    let kept = space[0..n] == before[0..n];
+    let apart = space[n..] == before[n..];
+    say_answer(rt, number, kept, apart)
 }
 
 // So many bytes x as the key: of zeros that is told.
-fn say_key(x: u8, key: usize) {
+fn say_key(rt: &impl Print, x: u8, key: usize) -> io::Result<()> {
     if x == 0 {
-        hex::say_count(b" zero key ", key);
+        hex_text::say_count(rt, b" zero key ", key)
     } else {
-        hex::say_count(b" key ", key);
+        hex_text::say_count(rt, b" key ", key)
     }
 }
 
-pub fn expand(bits: usize, x: u8, key: usize, words: usize)
+pub fn expand(rt: &impl Print, bits: usize, x: u8, key: usize, words: usize) -> io::Result<()>
     requires { (key ≤ 40) × (words ≤ 121) }
 {
-    hex::say_count(b"expand", bits);
-    say_key(x, key);
-    hex::say_count(b" schedule ", words);
+    hex_text::say_count(rt, b"expand", bits)?;
+    say_key(rt, x, key)?;
+    hex_text::say_count(rt, b" schedule ", words)?;
     if bits == 32 {
-        w32::expand(x, key, words);
+        w32::expand(rt, x, key, words)
     } else {
-        w64::expand(x, key, words);
+        w64::expand(rt, x, key, words)
     }
 }
 
@@ -68,20 +69,27 @@ fn crypt_in(
     }
 }
 
-pub fn crypt(bits: usize, decrypts: bool, words: usize, input: usize, output: usize)
+pub fn crypt(
+    rt: &impl Print,
+    bits: usize,
+    decrypts: bool,
+    words: usize,
+    input: usize,
+    output: usize,
+) -> io::Result<()>
     requires { (output ≤ 65568) × (input ≤ 65552) × (words ≤ 121) }
 {
     if decrypts {
-        hex::say_count(b"decrypt", bits);
+        hex_text::say_count(rt, b"decrypt", bits)?;
     } else {
-        hex::say_count(b"encrypt", bits);
+        hex_text::say_count(rt, b"encrypt", bits)?;
     }
-    hex::say_count(b" schedule ", words);
-    hex::say_count(b" input ", input);
-    hex::say_count(b" output ", output);
+    hex_text::say_count(rt, b" schedule ", words)?;
+    hex_text::say_count(rt, b" input ", input)?;
+    hex_text::say_count(rt, b" output ", output)?;
     let mut space = bytes(0x5a);
     let number = crypt_in(&mut space, bits, decrypts, words, input, output);
-    say_bytes(number, &space, output);
+    say_bytes(rt, number, &space, output)
 }
 
 fn check_in(space: &mut [u8], bits: usize, words: usize, output: usize) -> u32
@@ -94,15 +102,15 @@ fn check_in(space: &mut [u8], bits: usize, words: usize, output: usize) -> u32
     }
 }
 
-pub fn check_value(bits: usize, words: usize, output: usize)
+pub fn check_value(rt: &impl Print, bits: usize, words: usize, output: usize) -> io::Result<()>
     requires { (output ≤ 65) × (words ≤ 121) }
 {
-    hex::say_count(b"check_value", bits);
-    hex::say_count(b" schedule ", words);
-    hex::say_count(b" output ", output);
+    hex_text::say_count(rt, b"check_value", bits)?;
+    hex_text::say_count(rt, b" schedule ", words)?;
+    hex_text::say_count(rt, b" output ", output)?;
     let mut space = bytes(0x5a);
     let number = check_in(&mut space, bits, words, output);
-    say_bytes(number, &space, output);
+    say_bytes(rt, number, &space, output)
 }
 
 fn door_in(space: &mut [u8], direction: u32, x: u8, key: usize, input: usize, output: usize) -> u32
@@ -118,14 +126,21 @@ fn door_in(space: &mut [u8], direction: u32, x: u8, key: usize, input: usize, ou
     )
 }
 
-pub fn door(direction: u32, x: u8, key: usize, input: usize, output: usize)
+pub fn door(
+    rt: &impl Print,
+    direction: u32,
+    x: u8,
+    key: usize,
+    input: usize,
+    output: usize,
+) -> io::Result<()>
     requires { (output ≤ 65568) × (input ≤ 65552) × (key ≤ 40) }
 {
-    hex::say_count(b"locker_aes direction ", direction as usize);
-    say_key(x, key);
-    hex::say_count(b" input ", input);
-    hex::say_count(b" output ", output);
+    hex_text::say_count(rt, b"locker_aes direction ", direction as usize)?;
+    say_key(rt, x, key)?;
+    hex_text::say_count(rt, b" input ", input)?;
+    hex_text::say_count(rt, b" output ", output)?;
     let mut space = bytes(0x5a);
     let number = door_in(&mut space, direction, x, key, input, output);
-    say_bytes(number, &space, output);
+    say_bytes(rt, number, &space, output)
 }

@@ -1,50 +1,60 @@
-// What the programs share: the lines and fields of a text, its hex digits, and printing. No contract says more than its callers need.
+// What the programs share: their input; the lines and fields of a text, its hex digits, and printing. No contract says more than its callers need.
 #![tactic(auto)]
 
 pub mod w32;
 pub mod w64;
 
-ghost use Rattle.std.specs.Prelude.{◌≤◌, ◌<◌, length};
+ghost use Rattle.std.specs.Prelude.{◌≤◌, ◌<◌, length, IfOk};
 
-use libc::STDOUT_FILENO;
+use std::io;
+use std::io::Read;
+
+// Reads until the space is full or the input ends, and says how many bytes came. std's `read_exact` refuses a shorter input.
+pub fn read_full<R: Read>(input: &mut R, space: &mut [u8]) -> io::Result<usize>
+    ensures { IfOk result (λ n. n ≤ length space.new) }
+{
+    let mut done = 0;
+    while done < space.len() {
+        let n = input.read(&mut space[done..])?;
+        if n == 0 {
+            break;
+        }
+        done += n;
+    }
+    Ok(done)
+}
 
 // The index of the first `mark` of a text from `at` on, or the text's length.
 pub fn find(text: &[u8], at: usize, mark: u8) -> usize
     requires { at ≤ length text.now }
     ensures { (at ≤ result) × (result ≤ length text.now) }
 {
-    let mut i = at;
-    while i < text.len() {
+    for i in at..text.len() {
         if text[i] == mark {
             return i;
         }
-        i += 1;
     }
-    i
+    text.len()
 }
 
 // Field number k of a line, from 0, between single spaces; empty where the line has fewer.
 pub fn field(line: &[u8], k: usize) -> &[u8] {
     let mut at = 0;
     let mut end = find(line, 0, b' ');
-    let mut left = k;
-    while left > 0 {
+    for _ in 0..k {
         if end == line.len() {
             return &line[end..];
         }
         at = end + 1;
         end = find(line, at, b' ');
-        left -= 1;
     }
     &line[at..end]
 }
 
 // n bytes of a text from `at` on; empty where it ends before.
 pub fn part(text: &[u8], at: usize, n: usize) -> &[u8] {
-    if at <= text.len() {
-        if n <= text.len() - at {
-            return &text[at..at + n];
-        }
+    if at <= text.len() && n <= text.len() - at {
+        return &text[at..at + n];
     }
     &text[..0]
 }
@@ -79,33 +89,29 @@ pub fn read(digits: &[u8], bytes: &mut [u8]) {
     }
 }
 
-// A call, so that the cast of an element asks no proof.
-fn print_byte(byte: u8) {
-    io::print_hex(STDOUT_FILENO, byte as u64, 2);
-}
-
 // Prints bytes as digits, two each.
-pub fn print(bytes: &[u8]) {
-    for i in 0..bytes.len() {
-        print_byte(bytes[i]);
+pub fn print(rt: &impl Print, bytes: &[u8]) -> io::Result<()> {
+    for byte in bytes {
+        print!(rt; "{byte:02x}")?;
     }
+    Ok(())
 }
 
-pub fn say(text: &[u8]) {
-    io::write_all(STDOUT_FILENO, text);
+pub fn say(rt: &impl Print, text: &[u8]) -> io::Result<()> {
+    rt.write_all(text)
 }
 
 // Prints a name and a number.
-pub fn say_count(name: &[u8], n: usize) {
-    say(name);
-    io::print_decimal(STDOUT_FILENO, n as u64);
+pub fn say_count(rt: &impl Print, name: &[u8], n: usize) -> io::Result<()> {
+    say(rt, name)?;
+    print!(rt; "{n}")
 }
 
 // What stands after word number i of a schedule that is printed: eight words make a line.
-fn gap(i: usize) {
+fn gap(rt: &impl Print, i: usize) -> io::Result<()> {
     if i % 8 == 7 {
-        say(b"\n");
+        say(rt, b"\n")
     } else {
-        say(b" ");
+        say(rt, b" ")
     }
 }

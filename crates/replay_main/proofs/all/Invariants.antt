@@ -1,0 +1,13 @@
+use Rattle.std.proofs.Common.{◌+◌, ◌-◌, ◌≤◌, length}
+use Rattle.replay_main.proofs.all.Given as goal
+
+-- A record takes a byte at least, so no count wraps.
+abbrev pub invariant-loop-at : goal.invariant-loop-at
+invariant-loop-at g l = record {
+  few : l.records ≤ l.at;
+  within : l.at ≤ length l.text + 1;
+  one_each : l.agreed ≤ l.records;
+}
+
+abbrev pub decreases-loop-at : goal.decreases-loop-at
+decreases-loop-at g l = length l.initial.text - l.at
