@@ -8,7 +8,6 @@ use lib.Dec.{eqb}
 use lib.ListN.{length, get_or, drop, set, length-set, drop_of_length-le}
 use lib.Seq.{drop-cons, drop-set-lt, get_or-set_same, set-get_or}
 use Rattle.fips197.specs.Bytes.{Block}
-use Rattle.fips197.specs.Aes.{bit}
 use Rattle.fips197.proofs.Bits.{bit_lt, bit_cases}
 use Rattle.sp800_38b.specs.Cmac.{zeros, xors, msb1, shift_left, r128, double}
 use Rattle.sp800_38b.proofs.Laws.{double_where}

@@ -1,7 +1,6 @@
 -- What is joined so far is zero exactly where those bytes are.
-use borrow.Author.Rules.{rules}
 use Prim.Native.Nat.{◌-◌}
-use Rattle.aes.proofs.Joined.{Joined, joined_none, joined_more, joined_all}
+use Rattle.aes.proofs.Joined.{Joined}
 use Rattle.aes.proofs.zero_key.Given as goal
 
 abbrev pub invariant-loop-i : goal.invariant-loop-i

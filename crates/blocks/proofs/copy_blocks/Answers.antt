@@ -4,7 +4,7 @@ use mathlib.Core.Path.{◌≡◌, ◌∙◌}
 use Prim.Native.Nat.{◌+◌, ◌-◌, ◌*◌}
 use native.Mathlib.Omega.{arith}
 use lib.ListN.{length}
-use Rattle.blocks.proofs.Parts.{BlocksDone, blocks_none, blocks_next, blocks_all}
+use Rattle.blocks.proofs.Parts.{blocks_none, blocks_next, blocks_all}
 use Rattle.blocks.proofs.copy_blocks.Goals as goal
 
 pub loop-i-init : goal.loop-i-init

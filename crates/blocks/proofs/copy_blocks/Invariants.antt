@@ -1,10 +1,6 @@
 -- Each turn copies the next block.
-use borrow.Author.Rules.{rules}
-use mathlib.Core.Path.{◌≡◌, ◌∙◌}
-use Prim.Native.Nat.{◌+◌, ◌-◌, ◌*◌}
-use native.Mathlib.Omega.{arith}
-use lib.ListN.{length}
-use Rattle.blocks.proofs.Parts.{BlocksDone, blocks_none, blocks_next, blocks_all}
+use Prim.Native.Nat.{◌-◌}
+use Rattle.blocks.proofs.Parts.{BlocksDone}
 use Rattle.blocks.proofs.copy_blocks.Given as goal
 
 abbrev pub invariant-loop-i : goal.invariant-loop-i

@@ -1,5 +1,4 @@
 -- A list of sixteen is its sixteen elements.
-use borrow.Author.Rules.{rules}
 use Rattle.fips197.proofs.Blocks.{reads_all}
 use Rattle.blocks.proofs.load16.Goals as goal
 

@@ -1,10 +1,9 @@
 -- The loop comes to byte 0, and the carry is the block's first bit.
 use borrow.Author.Rules.{rules}
-use Prim.Native.Nat.{◌-◌}
 use native.Mathlib.Omega.{arith}
 use Rattle.fips197.specs.Bytes.{Block}
 use Rattle.lanes.proofs.Machine.{byte_fit}
-use Rattle.cmac.proofs.Shifting.{Shifted, carry_lt, shifted_none, shifted_more, doubled}
+use Rattle.cmac.proofs.Shifting.{carry_lt, shifted_none, shifted_more, doubled}
 use Rattle.cmac.proofs.double.Goals as goal
 use Rattle.cmac.proofs.double.Goals.{Start}
 

@@ -1,7 +1,6 @@
 -- Byte by byte, from the first.
-use borrow.Author.Rules.{rules}
 use Prim.Native.Nat.{◌-◌}
-use Rattle.cmac.proofs.Summing.{Summed, summed_none, summed_more, summed_all}
+use Rattle.cmac.proofs.Summing.{Summed}
 use Rattle.cmac.proofs.xor.Given as goal
 
 abbrev pub invariant-loop-i : goal.invariant-loop-i

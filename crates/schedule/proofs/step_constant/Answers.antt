@@ -1,5 +1,4 @@
 -- The table is FIPS-197's list, and only the first step of a turn reads it.
-use borrow.Author.Rules.{rules}
 use mathlib.Core.Path.{refl}
 use Rattle.fips197.specs.Aes.{round_constants}
 use Rattle.schedule.proofs.Growing.{constant_later}

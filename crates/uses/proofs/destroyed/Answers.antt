@@ -1,5 +1,4 @@
 -- By the theorem that a key of zeros is refused.
-use borrow.Author.Rules.{rules}
 use Rattle.uses.proofs.Laws.{door_destroyed}
 use Rattle.uses.proofs.destroyed.Goals as goal
 

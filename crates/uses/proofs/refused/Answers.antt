@@ -1,5 +1,4 @@
 -- A direction that is neither is refused, and a refusal changes nothing.
-use borrow.Author.Rules.{rules}
 use Rattle.uses.proofs.Laws.{door_refuses}
 use Rattle.uses.proofs.refused.Goals as goal
 

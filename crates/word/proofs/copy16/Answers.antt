@@ -1,8 +1,6 @@
 -- What is copied so far is a prefix of both.
 use borrow.Author.Rules.{rules}
-use Prim.Native.Nat.{◌≤◌, ◌-◌}
-use lib.ListN.{length, take, length-set}
-use mathlib.Core.Path.{◌≡◌}
+use lib.ListN.{length-set}
 use native.Mathlib.Omega.{arith}
 use Rattle.word.proofs.Copy.{copied_more, copied_all}
 use Rattle.word.proofs.copy16.Goals as goal

@@ -1,10 +1,7 @@
 -- What is copied so far is a prefix of both.
-use borrow.Author.Rules.{rules}
 use Prim.Native.Nat.{◌≤◌, ◌-◌}
-use lib.ListN.{length, take, length-set}
+use lib.ListN.{length, take}
 use mathlib.Core.Path.{◌≡◌}
-use native.Mathlib.Omega.{arith}
-use Rattle.word.proofs.Copy.{copied_more, copied_all}
 use Rattle.word.proofs.copy16.Given as goal
 
 abbrev pub invariant-loop-i : goal.invariant-loop-i

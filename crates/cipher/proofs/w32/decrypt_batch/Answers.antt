@@ -2,7 +2,6 @@
 use Rattle.lanes.specs.Layout.{w32 as w}
 use Rattle.cipher.proofs.w32.decrypt_batch.Goals as goal
 -- ---- the same at both widths
-use borrow.Author.Rules.{rules}
 use mathlib.Core.Path.{◌∙◌}
 use Rattle.cipher.proofs.Steps.{decrypted_is}
 

@@ -2,11 +2,8 @@
 use Rattle.lanes.specs.Layout.{w32 as w}
 use Rattle.cipher.proofs.w32.rounds.Given as goal
 -- ---- the same at both widths
-use borrow.Author.Rules.{rules}
-use Prim.Native.Nat.{◌+◌, ◌-◌, ◌<◌}
-use mathlib.Core.Path.{refl}
-use native.Mathlib.Omega.{arith}
-use Rattle.cipher.proofs.Steps.{round_is, Done, done_none, done_more, done_are, done_does, Upwards}
+use Prim.Native.Nat.{◌-◌}
+use Rattle.cipher.proofs.Steps.{Upwards}
 
 abbrev pub invariant-loop-r : goal.invariant-loop-r
 invariant-loop-r l = Upwards w l.rkeys l.n l.initial.state l.state l.r

@@ -2,11 +2,6 @@
 use Rattle.lanes.specs.Layout.{w32 as w}
 use Rattle.cipher.proofs.w32.unrounds.Given as goal
 -- ---- the same at both widths
-use borrow.Author.Rules.{rules}
-use Prim.Native.Nat.{◌-◌, ◌%◌, ◌≤◌, ◌<◌}
-use mathlib.Core.Path.{◌≡◌}
-use mathlib.Core.Logic.{⊎_elim}
-use native.Mathlib.Omega.{arith}
 use Rattle.cipher.proofs.Steps.{Downwards}
 
 abbrev pub invariant-loop-r : goal.invariant-loop-r

@@ -7,10 +7,9 @@ use Prim.Native.Nat.{◌+◌, ◌-◌, ◌*◌}
 use lib.ListN.{length}
 use mathlib.Core.Path.{◌≡◌, ◌∙◌}
 use native.Mathlib.Omega.{arith}
-use Rattle.fips197.specs.Aes.{inv_cipher}
 use Rattle.lanes.specs.Layout.{slots}
-use Rattle.lanes.specs.Schedule.{reading, crypted_batch}
-use Rattle.cipher.proofs.Loop.{BatchesDone, batches_none, batches_next, batches_all}
+use Rattle.lanes.specs.Schedule.{crypted_batch}
+use Rattle.cipher.proofs.Loop.{batches_none, batches_next, batches_all}
 
 pub loop-i-init : goal.loop-i-init
 loop-i-init c = batches_none w _ _

@@ -2,15 +2,10 @@
 use Rattle.lanes.specs.Layout.{w64 as w}
 use Rattle.cipher.proofs.w64.decrypt_batches.Given as goal
 -- ---- the same at both widths
-use borrow.Author.Rules.{rules}
-use Prim.Native.Nat.{◌+◌, ◌-◌, ◌*◌}
-use lib.ListN.{length}
-use mathlib.Core.Path.{◌≡◌, ◌∙◌}
-use native.Mathlib.Omega.{arith}
+use Prim.Native.Nat.{◌-◌}
 use Rattle.fips197.specs.Aes.{inv_cipher}
-use Rattle.lanes.specs.Layout.{slots}
-use Rattle.lanes.specs.Schedule.{reading, crypted_batch}
-use Rattle.cipher.proofs.Loop.{BatchesDone, batches_none, batches_next, batches_all}
+use Rattle.lanes.specs.Schedule.{reading}
+use Rattle.cipher.proofs.Loop.{BatchesDone}
 
 abbrev pub invariant-loop-i : goal.invariant-loop-i
 invariant-loop-i l = BatchesDone w (λ b. inv_cipher (reading w l.n l.schedule b)) l.input l.i l.initial.output l.output

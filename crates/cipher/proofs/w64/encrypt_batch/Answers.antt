@@ -2,7 +2,6 @@
 use Rattle.lanes.specs.Layout.{w64 as w}
 use Rattle.cipher.proofs.w64.encrypt_batch.Goals as goal
 -- ---- the same at both widths
-use borrow.Author.Rules.{rules}
 use mathlib.Core.Path.{◌∙◌}
 use Rattle.cipher.proofs.Steps.{encrypted_is}
 

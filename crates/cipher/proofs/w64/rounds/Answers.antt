@@ -1,9 +1,8 @@
 -- Before each turn the state is that of the rounds so far; a turn is four rounds, or one or three before the loop is left.
-use Rattle.lanes.specs.Layout.{w64 as w}
 use Rattle.cipher.proofs.w64.rounds.Goals as goal
 -- ---- the same at both widths
 use borrow.Author.Rules.{rules}
-use Prim.Native.Nat.{◌+◌, ◌-◌, ◌<◌}
+use Prim.Native.Nat.{◌+◌, ◌<◌}
 use mathlib.Core.Path.{refl}
 use native.Mathlib.Omega.{arith}
 use Rattle.cipher.proofs.Steps.{round_is, done_none, done_more, done_are, done_does, after_1, after_3}

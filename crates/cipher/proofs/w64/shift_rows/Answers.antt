@@ -1,7 +1,6 @@
 -- n modulo four is 2 or, n being even, 0.
 use Rattle.cipher.proofs.w64.shift_rows.Goals as goal
 -- ---- the same at both widths
-use borrow.Author.Rules.{rules}
 use native.Mathlib.Omega.{arith}
 use Rattle.lanes.specs.Schedule.{rows_shifted}
 use Rattle.lanes.proofs.Calls.{numbered}

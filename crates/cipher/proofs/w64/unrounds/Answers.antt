@@ -3,7 +3,6 @@ use Rattle.lanes.specs.Layout.{w64 as w}
 use Rattle.cipher.proofs.w64.unrounds.Goals as goal
 use Rattle.cipher.proofs.w64.unrounds.Goals.{Joined-r-eq3, then-r-eq3, else-r-eq3}
 -- ---- the same at both widths
-use borrow.Author.Rules.{rules}
 use native.Mathlib.Omega.{arith}
 use Rattle.cipher.proofs.Steps.{unround_is, left_all, left_less, left_none, Form1, from_3, from_1, after_form_1}
 

@@ -1,7 +1,6 @@
 -- Doubled, and doubled again.
 use Rattle.cmac.proofs.w32.subk.Goals as goal
 -- ---- the same at both widths
-use borrow.Author.Rules.{rules}
 use Rattle.sp800_38b.proofs.Laws.{subkeys_are}
 
 pub returns : goal.returns

@@ -1,7 +1,6 @@
 -- The message XORed with K1, encrypted.
 use Rattle.cmac.proofs.w32.tag_of_block.Goals as goal
 -- ---- the same at both widths
-use borrow.Author.Rules.{rules}
 use Rattle.sp800_38b.proofs.Laws.{tag_is}
 
 pub returns : goal.returns

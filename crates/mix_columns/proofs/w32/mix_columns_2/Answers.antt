@@ -2,7 +2,6 @@
 use Rattle.lanes.specs.Layout.{w32 as w}
 use Rattle.mix_columns.proofs.w32.mix_columns_2.Goals as goal
 -- ---- the same at both widths
-use borrow.Author.Rules.{rules}
 use native.Mathlib.Omega.{arith}
 use Rattle.lanes.proofs.Machine.{array_fit}
 use Rattle.lanes.proofs.Calls.{mix_calls}

@@ -1,7 +1,6 @@
 -- Eight words, each by its call.
 use Rattle.mix_columns.proofs.w32.second_rotates.Goals as goal
 -- ---- the same at both widths
-use borrow.Author.Rules.{rules}
 use Rattle.lanes.proofs.Parts.{◌∷≡◌}
 
 pub returns : goal.returns

@@ -2,7 +2,6 @@
 use Rattle.lanes.specs.Layout.{w64 as w}
 use Rattle.mix_columns.proofs.w64.first_rotate.Goals as goal
 -- ---- the same at both widths
-use borrow.Author.Rules.{rules}
 use native.Mathlib.Omega.{arith}
 use Rattle.mix_columns.proofs.Rotations.{plain, masked}
 

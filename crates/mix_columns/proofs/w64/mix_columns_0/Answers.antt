@@ -2,7 +2,6 @@
 use Rattle.lanes.specs.Layout.{w64 as w}
 use Rattle.mix_columns.proofs.w64.mix_columns_0.Goals as goal
 -- ---- the same at both widths
-use borrow.Author.Rules.{rules}
 use native.Mathlib.Omega.{arith}
 use Rattle.lanes.proofs.Machine.{array_fit}
 use Rattle.lanes.proofs.Calls.{mix_calls}

@@ -2,7 +2,6 @@
 use Rattle.lanes.specs.Layout.{w64 as w}
 use Rattle.round_keys.proofs.w64.add_round_constant.Goals as goal
 -- ---- the same at both widths
-use borrow.Author.Rules.{rules}
 use Rattle.lanes.proofs.Linear.{add_words, constant_words, constant_law, does_is}
 use Rattle.lanes.proofs.Machine.{array_fit}
 use Rattle.lanes.proofs.Parts.{◌∷≡◌}

@@ -1,7 +1,6 @@
 -- The part that is lent comes back in its place.
 use Rattle.round_keys.proofs.w64.memshift32.Goals as goal
 -- ---- the same at both widths
-use borrow.Author.Rules.{rules}
 use Prim.Native.Nat.{◌+◌, ◌-◌}
 use mathlib.Core.Path.{◌≡◌, ◌∙◌, ap}
 use native.Mathlib.Omega.{arith}

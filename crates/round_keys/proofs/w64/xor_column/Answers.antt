@@ -2,7 +2,6 @@
 use Rattle.lanes.specs.Layout.{w64 as w}
 use Rattle.round_keys.proofs.w64.xor_column.Goals as goal
 -- ---- the same at both widths
-use borrow.Author.Rules.{rules}
 use mathlib.Core.Path.{ap}
 use Rattle.lanes.specs.Programs.{words, column_of}
 

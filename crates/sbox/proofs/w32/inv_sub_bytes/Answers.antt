@@ -2,7 +2,6 @@
 use Rattle.lanes.specs.Layout.{w32 as w}
 use Rattle.sbox.proofs.w32.inv_sub_bytes.Goals as goal
 -- ---- the same at both widths
-use borrow.Author.Rules.{rules}
 use Rattle.lanes.proofs.SubBytes.{inv_sub_words, inv_sub_law}
 
 pub returns : goal.returns

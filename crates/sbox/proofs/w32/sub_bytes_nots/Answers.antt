@@ -2,7 +2,6 @@
 use Rattle.lanes.specs.Layout.{w32 as w}
 use Rattle.sbox.proofs.w32.sub_bytes_nots.Goals as goal
 -- ---- the same at both widths
-use borrow.Author.Rules.{rules}
 use Rattle.lanes.proofs.Machine.{array_fit}
 use Rattle.sbox.proofs.Words.{nots}
 

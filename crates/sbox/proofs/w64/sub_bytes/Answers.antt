@@ -2,7 +2,6 @@
 use Rattle.lanes.specs.Layout.{w64 as w}
 use Rattle.sbox.proofs.w64.sub_bytes.Goals as goal
 -- ---- the same at both widths
-use borrow.Author.Rules.{rules}
 use Rattle.lanes.proofs.SubBytes.{sub_words, sub_law}
 
 pub returns : goal.returns

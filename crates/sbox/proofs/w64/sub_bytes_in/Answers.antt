@@ -1,7 +1,6 @@
 -- Loaded, worked on and stored: `in_place`.
 use Rattle.sbox.proofs.w64.sub_bytes_in.Goals as goal
 -- ---- the same at both widths
-use borrow.Author.Rules.{rules}
 use Rattle.lanes.proofs.Parts.{in_place}
 
 pub returns : goal.returns

@@ -4,14 +4,12 @@ use Rattle.schedule.proofs.w32.expand_keys.Goals as goal
 use Rattle.schedule.proofs.w32.expand_keys.Goals.{then-r-end, else-r-end}
 -- ---- the same at both widths
 use borrow.Author.Rules.{rules}
-use Prim.Native.Nat.{◌+◌, ◌-◌, ◌*◌, ◌≤◌, ◌<◌}
+use Prim.Native.Nat.{◌+◌, ◌*◌, ◌≤◌, ◌<◌}
 use lib.ListN.{length}
 use mathlib.Core.Path.{◌≡◌, refl, ◌∙◌}
-use mathlib.Core.Logic.{⊎_elim}
 use native.Mathlib.Omega.{arith}
-use Rattle.schedule.specs.Steps.{Follows}
 use Rattle.schedule.proofs.Growing.{rows_few, begins_first, begins_late, begins_next, begins_constant}
-use Rattle.schedule.proofs.Growing.{Grown, grown_none, grown_on, grown_at, grown_step, grown_end, AtConstant, AtStep}
+use Rattle.schedule.proofs.Growing.{Grown, grown_none, grown_on, grown_at, grown_step, grown_end}
 
 pub loop-from-init : goal.loop-from-init
 loop-from-init c =

@@ -2,15 +2,8 @@
 use Rattle.lanes.specs.Layout.{w32 as w}
 use Rattle.schedule.proofs.w32.expand_keys.Given as goal
 -- ---- the same at both widths
-use borrow.Author.Rules.{rules}
-use Prim.Native.Nat.{◌+◌, ◌-◌, ◌*◌, ◌≤◌, ◌<◌}
-use lib.ListN.{length}
-use mathlib.Core.Path.{◌≡◌, refl, ◌∙◌}
-use mathlib.Core.Logic.{⊎_elim}
-use native.Mathlib.Omega.{arith}
-use Rattle.schedule.specs.Steps.{Follows}
-use Rattle.schedule.proofs.Growing.{rows_few, begins_first, begins_late, begins_next, begins_constant}
-use Rattle.schedule.proofs.Growing.{Grown, grown_none, grown_on, grown_at, grown_step, grown_end, AtConstant, AtStep}
+use Prim.Native.Nat.{◌-◌}
+use Rattle.schedule.proofs.Growing.{AtConstant, AtStep}
 
 abbrev pub invariant-loop-p : goal.invariant-loop-p
 invariant-loop-p l = AtStep w l.m l.from l.p l.initial.rkeys l.rkeys

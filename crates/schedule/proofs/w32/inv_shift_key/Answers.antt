@@ -1,7 +1,6 @@
 -- Each arm shifts as often as its number says.
 use Rattle.schedule.proofs.w32.inv_shift_key.Goals as goal
 -- ---- the same at both widths
-use borrow.Author.Rules.{rules}
 use native.Mathlib.Omega.{arith}
 use Rattle.lanes.specs.Schedule.{rows_unshifted}
 use Rattle.lanes.proofs.Calls.{numbered}

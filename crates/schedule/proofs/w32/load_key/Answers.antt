@@ -6,7 +6,7 @@ use borrow.Author.Rules.{rules}
 use Prim.Native.Nat.{◌+◌, ◌-◌, ◌*◌}
 use mathlib.Core.Path.{◌≡◌, ◌∙◌}
 use native.Mathlib.Omega.{arith}
-use Rattle.schedule.proofs.Growing.{LoadedSo, loaded_none, loaded_lent}
+use Rattle.schedule.proofs.Growing.{loaded_none, loaded_lent}
 
 pub loop-i-init : goal.loop-i-init
 loop-i-init c = loaded_none

@@ -2,11 +2,8 @@
 use Rattle.lanes.specs.Layout.{w32 as w}
 use Rattle.schedule.proofs.w32.load_key.Given as goal
 -- ---- the same at both widths
-use borrow.Author.Rules.{rules}
-use Prim.Native.Nat.{◌+◌, ◌-◌, ◌*◌}
-use mathlib.Core.Path.{◌≡◌, ◌∙◌}
-use native.Mathlib.Omega.{arith}
-use Rattle.schedule.proofs.Growing.{LoadedSo, loaded_none, loaded_lent}
+use Prim.Native.Nat.{◌-◌}
+use Rattle.schedule.proofs.Growing.{LoadedSo}
 
 abbrev pub invariant-loop-i : goal.invariant-loop-i
 invariant-loop-i l = LoadedSo w l.m l.i l.key l.initial.rkeys l.rkeys

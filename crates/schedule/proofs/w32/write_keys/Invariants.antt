@@ -2,12 +2,9 @@
 use Rattle.lanes.specs.Layout.{w32 as w}
 use Rattle.schedule.proofs.w32.write_keys.Given as goal
 -- ---- the same at both widths
-use borrow.Author.Rules.{rules}
-use Prim.Native.Nat.{◌+◌, ◌-◌, ◌*◌, ◌≤◌}
-use mathlib.Core.Path.{◌≡◌, refl, ◌∙◌}
-use native.Mathlib.Omega.{arith}
+use Prim.Native.Nat.{◌+◌, ◌-◌, ◌≤◌}
 use Rattle.lanes.specs.Schedule.{write_key}
-use Rattle.schedule.proofs.Adjusting.{AdjustedSo, adjusted_none, adjusted_lent, write_last, write_inner}
+use Rattle.schedule.proofs.Adjusting.{AdjustedSo}
 
 abbrev pub invariant-loop-r : goal.invariant-loop-r
 invariant-loop-r l = (l.r ≤ l.n) × AdjustedSo w (write_key l.n) (l.n + 1) l.r l.initial.rkeys l.rkeys

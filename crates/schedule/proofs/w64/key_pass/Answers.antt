@@ -1,7 +1,6 @@
 -- The bare S-box, its NOTs and the constant.
 use Rattle.schedule.proofs.w64.key_pass.Goals as goal
 -- ---- the same at both widths
-use borrow.Author.Rules.{rules}
 use Rattle.lanes.proofs.Parts.{in_place}
 use Rattle.schedule.proofs.Passes.{pass_is}
 

@@ -3,7 +3,7 @@ use Rattle.lanes.specs.Layout.{w64 as w}
 use Rattle.schedule.proofs.w64.key_schedule.Goals as goal
 -- ---- the same at both widths
 use borrow.Author.Rules.{rules}
-use Prim.Native.Nat.{◌+◌, ◌-◌, ◌*◌, ◌/◌}
+use Prim.Native.Nat.{◌-◌, ◌*◌, ◌/◌}
 use lib.ListN.{length}
 use mathlib.Core.Path.{◌≡◌, ◌∙◌}
 use native.Mathlib.Omega.{arith}
@@ -11,7 +11,7 @@ use Rattle.fips197.specs.Aes.{rounds_for}
 use Rattle.lanes.proofs.Machine.{byte_fit, slice_fit}
 use Rattle.schedule.proofs.Adjusting.{whole}
 use Rattle.schedule.proofs.Growing.{loaded_keys}
-use Rattle.schedule.proofs.KeySizes.{KeyBlocks, key_blocks}
+use Rattle.schedule.proofs.KeySizes.{key_blocks}
 
 pub overflow_sub-n : goal.overflow_sub-n
 overflow_sub-n c = let words = (key_blocks _ _ c.requires).blocks.words in omega arith

@@ -1,7 +1,6 @@
 -- The row shifts, then the NOTs.
 use Rattle.schedule.proofs.w64.write_key.Goals as goal
 -- ---- the same at both widths
-use borrow.Author.Rules.{rules}
 use Rattle.schedule.proofs.Adjusting.{shift_then_nots}
 
 pub returns : goal.returns

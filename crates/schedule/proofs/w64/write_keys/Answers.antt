@@ -3,11 +3,10 @@ use Rattle.lanes.specs.Layout.{w64 as w}
 use Rattle.schedule.proofs.w64.write_keys.Goals as goal
 -- ---- the same at both widths
 use borrow.Author.Rules.{rules}
-use Prim.Native.Nat.{◌+◌, ◌-◌, ◌*◌, ◌≤◌}
+use Prim.Native.Nat.{◌+◌, ◌-◌, ◌*◌}
 use mathlib.Core.Path.{◌≡◌, refl, ◌∙◌}
 use native.Mathlib.Omega.{arith}
-use Rattle.lanes.specs.Schedule.{write_key}
-use Rattle.schedule.proofs.Adjusting.{AdjustedSo, adjusted_none, adjusted_lent, write_last, write_inner}
+use Rattle.schedule.proofs.Adjusting.{adjusted_none, adjusted_lent, write_last, write_inner}
 
 pub loop-r-init : goal.loop-r-init
 loop-r-init c = (search rules, adjusted_none w _ (omega arith))

@@ -2,7 +2,6 @@
 use Rattle.lanes.specs.Layout.{w32 as w}
 use Rattle.shift_rows.proofs.w32.inv_shift_rows_2.Goals as goal
 -- ---- the same at both widths
-use borrow.Author.Rules.{rules}
 use mathlib.Core.Path.{◌∙◌}
 use Rattle.lanes.proofs.Linear.{unshift_2}
 

@@ -2,7 +2,6 @@
 use Rattle.lanes.specs.Layout.{w32 as w}
 use Rattle.shift_rows.proofs.w32.shift_rows_1.Goals as goal
 -- ---- the same at both widths
-use borrow.Author.Rules.{rules}
 use lib.Dec.{lit<}
 use Rattle.lanes.proofs.Linear.{shift_words, shift_law, does_is}
 use Rattle.lanes.proofs.Machine.{array_fit}

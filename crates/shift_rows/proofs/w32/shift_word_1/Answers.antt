@@ -2,7 +2,6 @@
 use Rattle.lanes.specs.Layout.{w32 as w}
 use Rattle.shift_rows.proofs.w32.shift_word_1.Goals as goal
 -- ---- the same at both widths
-use borrow.Author.Rules.{rules}
 use mathlib.Core.Path.{ap, ◌∙◌}
 use Rattle.lanes.specs.Layout.{quarter_row}
 use Rattle.lanes.specs.Masks.{pack_rows}

@@ -1,5 +1,4 @@
 -- By the theorem that a key of zeros is refused.
-use borrow.Author.Rules.{rules}
 use Rattle.lanes.specs.Layout.{w32 as w}
 use Rattle.uses.proofs.Laws.{expand_destroyed}
 use Rattle.uses.proofs.w32.destroyed.Goals as goal

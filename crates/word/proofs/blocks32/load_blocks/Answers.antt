@@ -1,5 +1,4 @@
 -- Each word is the program's.
-use borrow.Author.Rules.{rules}
 use Rattle.lanes.proofs.Parts.{◌∷≡◌}
 use Rattle.word.proofs.blocks32.load_blocks.Goals as goal
 

@@ -1,5 +1,4 @@
 -- The three swaps and the bytes are the program's.
-use borrow.Author.Rules.{rules}
 use mathlib.Core.List.{[], ◌∷◌}
 use mathlib.Core.Path.{ap₂, ◌∙◌}
 use lib.ListN.{get_or}

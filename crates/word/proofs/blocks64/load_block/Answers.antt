@@ -1,5 +1,4 @@
 -- The three swaps are the program's.
-use borrow.Author.Rules.{rules}
 use Rattle.lanes.proofs.Packing.{swap_after}
 use Rattle.lanes.specs.Layout.{w64}
 use Rattle.word.proofs.blocks64.load_block.Goals as goal

@@ -1,5 +1,4 @@
 -- Each word is the program's.
-use borrow.Author.Rules.{rules}
 use Rattle.lanes.proofs.Parts.{◌∷≡◌, done}
 use Rattle.word.proofs.blocks64.load_blocks.Goals as goal
 

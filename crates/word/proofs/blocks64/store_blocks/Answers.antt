@@ -1,5 +1,4 @@
 -- The parts are the blocks, one after the other.
-use borrow.Author.Rules.{rules}
 use lib.ListN.{get_or}
 use Prim.Native.Nat.{ℕ}
 use mathlib.Core.Path.{refl, ◌∙◌}

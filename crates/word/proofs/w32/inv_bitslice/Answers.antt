@@ -2,7 +2,6 @@
 use Rattle.lanes.specs.Layout.{w32 as w}
 use Rattle.word.proofs.w32.inv_bitslice.Goals as goal
 -- ---- the same at both widths
-use borrow.Author.Rules.{rules}
 use mathlib.Core.Path.{◌∙◌}
 use Rattle.lanes.proofs.Machine.{array_fit}
 use Rattle.lanes.proofs.Packing.{unpacks}

@@ -2,7 +2,6 @@
 use Rattle.lanes.specs.Layout.{w64 as w}
 use Rattle.word.proofs.w64.bitslice_swaps.Goals as goal
 -- ---- the same at both widths
-use borrow.Author.Rules.{rules}
 use Rattle.lanes.proofs.Packing.{swaps_calls}
 
 pub returns : goal.returns

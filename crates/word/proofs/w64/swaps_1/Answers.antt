@@ -1,7 +1,6 @@
 -- Each pair of words is swapped as the program says.
 use Rattle.word.proofs.w64.swaps_1.Goals as goal
 -- ---- the same at both widths
-use borrow.Author.Rules.{rules}
 use Rattle.lanes.proofs.Parts.{◌∷≡◌, done}
 
 pub returns : goal.returns
