@@ -314,7 +314,8 @@ sums_eq : (x y : List Sum) → T (same_sums x y) → x ≡ y
 sums_eq [] [] t = refl
 sums_eq [] (y ∷ ys) t = absurd t
 sums_eq (x ∷ xs) [] t = absurd t
-sums_eq (x ∷ xs) (y ∷ ys) t = ap₂ ◌∷◌ (sum_eq x y (both_left (same_sum x y) (same_sums xs ys) t)) (sums_eq xs ys (both_right (same_sum x y) (same_sums xs ys) t))
+sums_eq (x ∷ xs) (y ∷ ys) t =
+    ap₂ ◌∷◌ (sum_eq x y (both_left (same_sum x y) (same_sums xs ys) t)) (sums_eq xs ys (both_right (same_sum x y) (same_sums xs ys) t))
 
 module _ (ρ : ℕ → ℕ) where
   abbrev pub same : List (Related ρ) → List (Related ρ) → Bool
@@ -350,7 +351,7 @@ module _ (ρ : ℕ → ℕ) where
   agree [] (y ∷ ys) t = absurd t
   agree (x ∷ xs) [] t = absurd t
   agree (x ∷ xs) (y ∷ ys) t =
-      ap₂ ◌∷◌ (word_eq x y (both_left (same_word x.sym y.sym) (same xs ys) t)) (agree xs ys (both_right (same_word x.sym y.sym) (same xs ys) t))
+    ap₂ ◌∷◌ (word_eq x y (both_left (same_word x.sym y.sym) (same xs ys) t)) (agree xs ys (both_right (same_word x.sym y.sym) (same xs ys) t))
 
   -- THE SOUNDNESS THEOREM, for lists of blocks
   pub agree_lists : (xs ys : List (List (Related ρ))) → T (same_lists xs ys) → map (numbers ρ) xs ≡ map (numbers ρ) ys
@@ -358,7 +359,7 @@ module _ (ρ : ℕ → ℕ) where
   agree_lists [] (y ∷ ys) t = absurd t
   agree_lists (x ∷ xs) [] t = absurd t
   agree_lists (x ∷ xs) (y ∷ ys) t =
-      ap₂ ◌∷◌ (agree x y (both_left (same x y) (same_lists xs ys) t)) (agree_lists xs ys (both_right (same x y) (same_lists xs ys) t))
+    ap₂ ◌∷◌ (agree x y (both_left (same x y) (same_lists xs ys) t)) (agree_lists xs ys (both_right (same x y) (same_lists xs ys) t))
 
 -- ---- the inputs
 abbrev names : ℕ → ℕ → List Sum
