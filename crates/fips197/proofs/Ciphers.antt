@@ -58,7 +58,8 @@ unfolding rounds inv_rounds
 inv_rounds_rounds none b = refl
 inv_rounds_rounds (more k none) b = last_undone b k
 inv_rounds_rounds (more {k = x} k (more l ks)) b =
-    ap (λ t. inv_sub_bytes (inv_shift_rows (inv_mix_columns (add_round_key t x)))) (inv_rounds_rounds (more l ks) (add_block (mix_block (shift_block (sub_block b))) k))
+    ap (λ t. inv_sub_bytes (inv_shift_rows (inv_mix_columns (add_round_key t x))))
+    (inv_rounds_rounds (more l ks) (add_block (mix_block (shift_block (sub_block b))) k))
     ∙ round_undone b k
 
 rounds_inv_rounds : {ks : List (List ℕ)} {s : List ℕ} → Blocks ks → Block s → rounds ks (inv_rounds ks s) ≡ s

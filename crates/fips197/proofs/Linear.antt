@@ -314,7 +314,8 @@ sums_eq : (x y : List Sum) → T (same_sums x y) → x ≡ y
 sums_eq [] [] t = refl
 sums_eq [] (y ∷ ys) t = absurd t
 sums_eq (x ∷ xs) [] t = absurd t
-sums_eq (x ∷ xs) (y ∷ ys) t = ap₂ ◌∷◌ (sum_eq x y (both_left (same_sum x y) (same_sums xs ys) t)) (sums_eq xs ys (both_right (same_sum x y) (same_sums xs ys) t))
+sums_eq (x ∷ xs) (y ∷ ys) t =
+    ap₂ ◌∷◌ (sum_eq x y (both_left (same_sum x y) (same_sums xs ys) t)) (sums_eq xs ys (both_right (same_sum x y) (same_sums xs ys) t))
 
 module _ (ρ : ℕ → ℕ) where
   abbrev pub same : List (Related ρ) → List (Related ρ) → Bool

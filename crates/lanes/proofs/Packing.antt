@@ -48,7 +48,8 @@ pack_law w l fit e b h = pack_slots w l fit b h ∙ sixteen_from_take l (16 * b)
     long w64 e b h = omega arith
 
 -- the three layers of swaps as calls
-pub swaps_calls : (w : Width) (t : List ℕ) {k l m : List ℕ} → k ≡ on8 (swaps1 (words w) w) (λ p. get_or t p 0) → l ≡ on8 (swaps2 (words w) w) (λ p. get_or k p 0)
+pub swaps_calls : (w : Width) (t : List ℕ) {k l m : List ℕ} → k ≡ on8 (swaps1 (words w) w) (λ p. get_or t p 0)
+    → l ≡ on8 (swaps2 (words w) w) (λ p. get_or k p 0)
     → m ≡ on8 (swaps4 (words w) w) (λ p. get_or l p 0) → m ≡ swaps_program (words w) w (λ p. get_or t p 0)
 swaps_calls w t p q r =
     r
@@ -72,8 +73,10 @@ packs w {l} {t} {r} fit e p q =
 broadcast_slots : (w : Width) (l : List ℕ) → Fit 8 l → (b : ℕ) → b < slots w
     → slot w (swaps_program (words w) w (λ p. get_or (broadcast_program (words w) w (λ i. get_or l i 0)) p 0)) b ≡ sixteen_from (λ i. get_or l i 0) 0
 unfolding slot
-broadcast_slots w32 l fit = law_of 8 (lit≤ tt) w32 (λ A o a. swaps_program o w32 (at o w32 (broadcast_program o w32 a))) (λ A o a s b. sixteen_from a 0) l fit tt
-broadcast_slots w64 l fit = law_of 8 (lit≤ tt) w64 (λ A o a. swaps_program o w64 (at o w64 (broadcast_program o w64 a))) (λ A o a s b. sixteen_from a 0) l fit tt
+broadcast_slots w32 l fit =
+    law_of 8 (lit≤ tt) w32 (λ A o a. swaps_program o w32 (at o w32 (broadcast_program o w32 a))) (λ A o a s b. sixteen_from a 0) l fit tt
+broadcast_slots w64 l fit =
+    law_of 8 (lit≤ tt) w64 (λ A o a. swaps_program o w64 (at o w64 (broadcast_program o w64 a))) (λ A o a s b. sixteen_from a 0) l fit tt
 
 pub broadcasts : (w : Width) {l t r : List ℕ} → Fit 8 l → length l ≡ 16 → t ≡ broadcast_program (words w) w (λ i. get_or l i 0)
     → r ≡ swaps_program (words w) w (λ p. get_or t p 0) → (b : ℕ) → b < slots w → slot w r b ≡ l

@@ -47,7 +47,8 @@ write_key n (suc r) k = cond (eqb (suc r) n) (add63 k) (add63 (rows_unshifted (s
 
 -- the words that read, in every slot, as FIPS-197's round keys of a key of Nk words
 unfoldable pub schedule_of : Width → ℕ → List ℕ → List ℕ
-schedule_of w nk key = join (map (λ r. pack w (each_slot w (λ b. write_key (rounds_for nk) r (get_or (key_expansion nk key) r [])))) (range 0 (rounds_for nk + 1)))
+schedule_of w nk key =
+    join (map (λ r. pack w (each_slot w (λ b. write_key (rounds_for nk) r (get_or (key_expansion nk key) r [])))) (range 0 (rounds_for nk + 1)))
 
 -- ---- what blocks become
 

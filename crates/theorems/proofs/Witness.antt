@@ -224,7 +224,10 @@ module _ (k : ℕ) (some : 1 ≤ k) (most : k ≤ 4096) where
   pub can_crypt : (c : List (List ℕ) → List ℕ → List ℕ) (w : Width) {s : List ℕ} → Schedule w s → (x y : ℕ) → x < 256 → y < 256
       → Can (on k (crypt_call c w) (λ a. a.input)) (crypt_args k s x) (replicate (16 * k) y)
   can_crypt c w p x y h l = record {
-    fits = (record { schedule_words_fit = p.words; input_bytes = (message_data k some x h).bytes; buffer_bytes = fit_replicate (16 * k) l }, message_long k some x);
+    fits = (
+      record { schedule_words_fit = p.words; input_bytes = (message_data k some x h).bytes; buffer_bytes = fit_replicate (16 * k) l },
+      message_long k some x,
+    );
     good = record { scheduled = p.right_length; blocks = room_for x y };
   }
 
@@ -265,7 +268,8 @@ first_round ks x = add_round_key (mix_columns (shift_rows (sub_bytes (add_round_
 
 -- the first round that InvCipher does: AddRoundKey with the last key, then InvShiftRows, InvSubBytes, AddRoundKey with the key before, InvMixColumns
 unfoldable pub first_unround : List (List ℕ) → List ℕ → List ℕ
-first_unround ks x = inv_mix_columns (add_round_key (inv_sub_bytes (inv_shift_rows (add_round_key x (get_or ks (length ks - 1) [])))) (get_or ks (length ks - 2) []))
+first_unround ks x =
+    inv_mix_columns (add_round_key (inv_sub_bytes (inv_shift_rows (add_round_key x (get_or ks (length ks - 1) [])))) (get_or ks (length ks - 2) []))
 
 pub first_round_length : (ks : List (List ℕ)) (x : List ℕ) → length (first_round ks x) ≡ 16
 unfolding first_round add_round_key
@@ -317,5 +321,6 @@ unround_one = refl
 
 -- a CMAC of zeros by a cipher that stops after its first round
 pub round_tag : get_or (cmac_of_block (first_round round_keys_a1) zero_block) 0 0 ≡ 0x52
-unfolding first_round round_keys_a1 add_round_key mix_columns shift_rows sub_bytes sbox affine inverse product xtime cmac_of_block subkey1 double shift_left xors r128
+unfolding first_round round_keys_a1 add_round_key mix_columns shift_rows sub_bytes sbox affine inverse product xtime
+    cmac_of_block subkey1 double shift_left xors r128
 round_tag = refl
