@@ -67,4 +67,4 @@ done
 $CC -std=c11 -D_POSIX_C_SOURCE=199309L -O3 -Wall -Wextra -o "$out/before" bench/before.c "$out/before_packing.a" "$out/before_host.a" \
     "$out/$head/libpacking.a" "$out/$head/libhost.a"
 sed -n 's/^model name[[:space:]]*: /machine: /p' /proc/cpuinfo | head -1
-exec "$out/before" "${2:-300}"
+"$out/before" "${2:-300}"
