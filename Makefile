@@ -36,6 +36,6 @@ demo examples bench:
 	@$@/run.sh
 
 clean:
-	rm -rf target
+	rm -rf target crates/*/out
 
 .PHONY: all install uninstall check demo examples bench clean

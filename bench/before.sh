@@ -1,7 +1,7 @@
 #!/bin/sh
 # Is a change slower? bench/before.sh COMMIT [RUNS] times the library of COMMIT and that of HEAD, and the packing of both by itself, in turns
-# in one process. Both are proved and built below target/bench first, which takes minutes once; docs/changes has what it printed. A library from
-# before request d takes one batch in a call: the rows of a long call then say that it refuses.
+# in one process. Both are proved and built first, which takes minutes once, and kept below target/bench; docs/changes has what it printed. A commit
+# from before the port (docs/PORT.md) needs the kit of its time, and is not built by this one.
 top=$(cd "$(dirname "$0")/.." && pwd)
 . "$top/tools/common.sh"
 need "${CC%% *}" gcc
@@ -12,7 +12,9 @@ head=$(git rev-parse HEAD)
 # The packing of one batch, which no exported function does by itself: one more crate, in the two trees only.
 packing() {
     cat <<'END'
-#[no_mangle]
+#![tactic(auto)]
+
+#[unsafe(no_mangle)]
 pub extern "C" fn pack64(input: &[u8], state: &mut [u64]) -> u32 {
     if input.len() != 64 {
         return 3;
@@ -24,7 +26,7 @@ pub extern "C" fn pack64(input: &[u8], state: &mut [u64]) -> u32 {
     0
 }
 
-#[no_mangle]
+#[unsafe(no_mangle)]
 pub extern "C" fn unpack64(state: &[u64], output: &mut [u8]) -> u32 {
     if state.len() != 8 {
         return 2;
@@ -38,31 +40,31 @@ pub extern "C" fn unpack64(state: &[u64], output: &mut [u8]) -> u32 {
 END
 }
 
-# build COMMIT: target/bench/COMMIT has the tree and its two archives. What this tree has proved already is not proved again.
+# build COMMIT: target/bench/COMMIT has its two archives. The tree stands outside the checkout, since rt refuses sources below target/; rt finds what
+# checks in this checkout have proved.
+tree=$(mktemp -d)
+trap 'rm -rf "$tree"' EXIT
 build() {
-    tree=$out/$1
-    [ ! -f "$tree/target/staticlib/libhost.a" ] || return 0
-    rm -rf "$tree"
-    mkdir -p "$tree/target"
+    [ ! -f "$out/$1/libhost.a" ] || return 0
+    rm -rf "$tree" "${out:?}/$1"
+    mkdir -p "$tree/crates/packing/src" "$out/$1"
     git archive "$1" | tar -x -C "$tree"
-    mkdir -p "$tree/crates/packing/src"
     packing >"$tree/crates/packing/src/lib.rt"
-    echo 'packing: word utils' >>"$tree/crates.txt"
-    for made in rlib stamp log; do
-        [ ! -d "target/$made" ] || cp -R "target/$made" "$tree/target/"
-    done
+    echo 'packing staticlib: word utils' >>"$tree/crates.txt"
     echo "building $1"
-    (cd "$tree" && rt staticlib packing && rt staticlib host) >"$out/$1.log" 2>&1 || fail "$1 is not built; target/bench/$1.log says why"
+    (cd "$tree" && tools/archive.sh && cd crates/packing && rt lib --cpu x86-64) >"$out/$1.log" 2>&1 ||
+        fail "$1 is not built; target/bench/$1.log says why"
+    cp "$tree/crates/packing/out/libpacking.a" "$tree/target/staticlib/libhost.a" "$out/$1/"
 }
 
 build "$commit"
 build "$head"
 for name in packing host; do
-    symbols=$(nm --defined-only -g "$out/$commit/target/staticlib/lib$name.a" | sed -n 's/^[0-9a-f]* T \(.*\)/--redefine-sym \1=before_\1/p')
+    symbols=$(nm --defined-only -g "$out/$commit/lib$name.a" | sed -n 's/^[0-9a-f]* T \(.*\)/--redefine-sym \1=before_\1/p')
     # shellcheck disable=SC2086 # two words for each symbol
-    objcopy $symbols "$out/$commit/target/staticlib/lib$name.a" "$out/before_$name.a"
+    objcopy $symbols "$out/$commit/lib$name.a" "$out/before_$name.a"
 done
 $CC -std=c11 -D_POSIX_C_SOURCE=199309L -O3 -Wall -Wextra -o "$out/before" bench/before.c "$out/before_packing.a" "$out/before_host.a" \
-    "$out/$head/target/staticlib/libpacking.a" "$out/$head/target/staticlib/libhost.a"
+    "$out/$head/libpacking.a" "$out/$head/libhost.a"
 sed -n 's/^model name[[:space:]]*: /machine: /p' /proc/cpuinfo | head -1
-exec "$out/before" "${2:-300}"
+"$out/before" "${2:-300}"

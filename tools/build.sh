@@ -109,8 +109,8 @@ if ! is_proved; then
         [ $again = no ] || due="$due$crate "
     done
     n=$(echo "$due" | wc -w)
-    echo "build: the library rests on $count crates; up to $n are proved now, at about half a minute each:" \
-        "$(((n + 1) / 2)) min or so, more on a busy machine"
+    echo "build: the library rests on $count crates; up to $n are proved now, at about ten seconds each:" \
+        "$(((n + 5) / 6)) min or so, more on a busy machine"
     mkdir -p target/log
     if [ "${V:-0}" != 0 ]; then
         tools/archive.sh || fail "not proved"

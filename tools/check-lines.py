@@ -10,7 +10,7 @@ import sys
 
 LONGEST = 160
 READ = (".rt", ".antt", ".md", ".sh", ".py", ".c", ".h", ".rs")
-PASSED_OVER = {".git", "target"}
+PASSED_OVER = {".git", "target", "out"}
 
 
 def is_read(path):

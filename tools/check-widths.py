@@ -49,6 +49,18 @@ def parts_of(top, path):
     return lines[:at], lines[at + 1 :]
 
 
+def whole_imports(header):
+    """Each line with its number; an import that `rt fmt` broke into several is one."""
+    at, held = 0, ""
+    for number, line in enumerate(header, 1):
+        at, held = (at, f"{held} {line.strip()}") if held else (number, line)
+        if not re.match(r"(?:ghost )?use ", held) or held.endswith(";"):
+            yield at, held
+            held = ""
+    if held:
+        yield at, held
+
+
 def said(path, header):
     """What a header says, but for the width: the lines of a proof's; imports and declared names of a source's."""
     other_width = lambda line: line.replace("32", "64")
@@ -58,7 +70,7 @@ def said(path, header):
                 raise Wrong(f"{path}:{number}: neither a comment nor an import stands above the mark")
         return [other_width(line) for line in header]
     names = []
-    for number, line in enumerate(header, 1):
+    for number, line in whole_imports(header):
         declared = DECLARATION.match(line)
         if declared:
             names.append(declared.group(1))

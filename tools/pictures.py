@@ -181,7 +181,8 @@ PROVES = {
     "cmac": "doubling, subkeys and the tag of a block are SP 800-38B's, in slot 0",
     "aes": "the public calls: which number, and every byte afterwards, for all inputs",
     "theorems": "what the promises imply, and the wrong programs that cannot meet them",
-    "host": "the C door and the exported calls keep the same promises",
+    "host": "the door, and the calls under their names for C, keep the same promises",
+    "host_c": "the same nine functions, exported for C",
     "uses": "what a caller may build on the exported promises alone",
 }
 NO_CODE = {"fips197", "lanes", "sp800_38b", "appendices", "outcome", "calls", "theorems"}
@@ -189,7 +190,7 @@ NO_CODE = {"fips197", "lanes", "sp800_38b", "appendices", "outcome", "calls", "t
 PLACES = {
     "fips197": (0, 2), "outcome": (0, 5), "lanes": (1, 2), "sp800_38b": (1, 4.5), "utils": (2, 2), "appendices": (2, 3.5), "calls": (2, 5), "word": (3, 0),
     "shift_rows": (3, 1), "round_keys": (3, 2), "sbox": (3, 3), "mix_columns": (3, 4), "schedule": (4, 1), "cipher": (4, 2.5), "blocks": (5, 2),
-    "cmac": (6, 4), "aes": (7, 2), "theorems": (7, 4.5), "host": (8, 2), "uses": (9, 3),
+    "cmac": (6, 4), "aes": (7, 2), "theorems": (7, 4.5), "host": (8, 2), "host_c": (9, 1), "uses": (9, 3),
 }
 
 
@@ -199,7 +200,7 @@ def crates():
         line = line.split("#")[0]
         if ":" in line:
             name, rest = line.split(":", 1)
-            deps[name.strip()] = rest.split()
+            deps[name.split()[0]] = rest.split()
     deps = {name: [d for d in ds if d in deps] for name, ds in deps.items()}
     users = {name: [u for u in deps if name in deps[u]] for name in deps}
     programs = [name for name in deps if (TOP / "crates" / name / "src" / "main.rt").exists()]
@@ -241,7 +242,7 @@ def crates():
             picture.path(f"M{a:g} {top:g} V{turn:g} C{a:g} {turn + 24:g} {b:g} {low - 24:g} {b:g} {low:g}")
     for name in shown:
         x, y = at[name]
-        colour = kinds[2][1] if name == "host" else kinds[0][1] if name in NO_CODE else kinds[1][1]
+        colour = kinds[2][1] if name == "host_c" else kinds[0][1] if name in NO_CODE else kinds[1][1]
         picture.rect(x, y, wide, tall, colour, LINE, 7)
         picture.text(x + 12, y + 22, name, 15, weight="bold")
         words, said = PROVES[name].split(), [""]

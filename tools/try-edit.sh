@@ -1,7 +1,7 @@
 #!/bin/sh
 # Checks a crate with its must-fail edit made, in a copy outside the checkout, and writes all that the prover says to target/must-fail/CRATE/EDIT.log:
 # tools/try-edit.sh crates/CRATE/must-fail/EDIT.edit. `rt ci` itself keeps the first line of a refusal only, and an edit has several faults. The copy
-# begins with what checks in this checkout kept (rt finds it), so mostly what the edit touches is proved. The log's last line is `exit STATUS`.
+# begins with what tools/archive.sh proved, so mostly what the edit touches is proved. The log's last line is `exit STATUS`.
 set -u
 cd "$(dirname "$0")/.." || exit 1
 edit=$1
@@ -18,6 +18,14 @@ for part in crates/*/src crates/*/specs crates/*/proofs; do
     mkdir -p "$tree/$(dirname "$part")"
     cp -R "$part" "$tree/$part"
 done
+# what was built of the crates below, by links where these can be made (rt goes by its content), and what was proved of this one
+for made in crates/*/out/rlib; do
+    [ -d "$made" ] || continue
+    mkdir -p "$tree/$made"
+    cp -Rl "$made/." "$tree/$made" 2>/dev/null || cp -R "$made/." "$tree/$made"
+done
+made=crates/$crate/out/incremental
+[ ! -d "$made" ] || { mkdir -p "$tree/crates/$crate/out" && cp -R "$made" "$tree/$made"; }
 python3 - "$edit" "$tree/crates/$crate" >"$log" <<'END_OF_PYTHON'
 import os, sys
 

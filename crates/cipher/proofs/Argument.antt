@@ -12,8 +12,20 @@ use mathlib.Core.Bool.{cond}
 use borrow.Author.Tests.{eq-eqb, ne_eqb}
 use lib.Dec.{eqb}
 use Rattle.fips197.specs.Bytes.{Block}
-use Rattle.fips197.specs.Aes.{range, product, xtime, sub_bytes, inv_sub_bytes, shift_rows, inv_shift_rows, mix_columns, add_round_key}
-use Rattle.fips197.specs.Aes.{rounds, cipher, inv_cipher}
+use Rattle.fips197.specs.Aes.{
+  range,
+  product,
+  xtime,
+  sub_bytes,
+  inv_sub_bytes,
+  shift_rows,
+  inv_shift_rows,
+  mix_columns,
+  add_round_key,
+  rounds,
+  cipher,
+  inv_cipher,
+}
 use Rattle.fips197.proofs.Layers.{Bytes, mix_columns_of, add_round_key_of}
 use Rattle.fips197.proofs.Blocks.{chosen, reads, block_is, sub_block, shift_block, mix_block, add_block}
 use Rattle.fips197.proofs.Laws.{layers, front, back, pair, pair_fits, sub_shift, inv_sub_sub, shift_four, inv_mix_mix, add_add}

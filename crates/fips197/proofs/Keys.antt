@@ -149,8 +149,8 @@ rcon_fits j = fit_cons _ ((fit_test 8 round_constants tt).at (j - 1)) (fit_test 
 temp_fits : (nk i : ℕ) (w : List ℕ) → Fit 8 w → Fit 8 (key_temp nk i w)
 unfolding key_temp
 temp_fits nk i w f =
-    chosen (Fit 8) (eqb (i % nk) 0) (add_word_fits (sub_word (rot_word w)) (rcon (i / nk))
-    (sub_word_fits (rot_word w) (rot_word_fits w f)) (rcon_fits (i / nk)))
+    chosen (Fit 8) (eqb (i % nk) 0)
+    (add_word_fits (sub_word (rot_word w)) (rcon (i / nk)) (sub_word_fits (rot_word w) (rot_word_fits w f)) (rcon_fits (i / nk)))
     (chosen (Fit 8) (◌&&◌ (ltb 6 nk) (eqb (i % nk) 4)) (sub_word_fits w f) f)
 
 more_fits : (nk n i : ℕ) (ws : List ℕ) → Fit 8 ws → Fit 8 (more_words nk n i ws)
@@ -159,8 +159,8 @@ more_fits nk zero i ws f = f
 more_fits nk (suc n) i ws f =
     let part : (j : ℕ) → Fit 8 (word_of ws j) = λ j. fit_take 4 (drop (4 * j) ws) (fit_drop (4 * j) ws f) in
     more_fits nk n (suc i) (ws ++ ruled nk ws i)
-    (fit_append f (add_word_fits (word_of ws (i - nk)) (key_temp nk i (word_of ws (i - 1))) (part (i - nk))
-    (temp_fits nk i (word_of ws (i - 1)) (part (i - 1)))))
+    (fit_append f
+    (add_word_fits (word_of ws (i - nk)) (key_temp nk i (word_of ws (i - 1))) (part (i - nk)) (temp_fits nk i (word_of ws (i - 1)) (part (i - 1)))))
 
 module _ (nk : ℕ) (key : List ℕ) (pos : 1 ≤ nk) (long : length key ≡ 4 * nk) (fits : Fit 8 key) where
   pub words_fit : Fit 8 (key_words nk key)

@@ -129,7 +129,8 @@ sub_word w = sbox (get_or w 0 0) ∷ sbox (get_or w 1 0) ∷ sbox (get_or w 2 0)
 
 unfoldable pub add_word : List ℕ → List ℕ → List ℕ
 add_word v w =
-    bit_xor (get_or v 0 0) (get_or w 0 0) ∷ bit_xor (get_or v 1 0) (get_or w 1 0) ∷ bit_xor (get_or v 2 0) (get_or w 2 0) ∷ bit_xor (get_or v 3 0) (get_or w 3 0) ∷ []
+    bit_xor (get_or v 0 0) (get_or w 0 0) ∷ bit_xor (get_or v 1 0) (get_or w 1 0) ∷
+    bit_xor (get_or v 2 0) (get_or w 2 0) ∷ bit_xor (get_or v 3 0) (get_or w 3 0) ∷ []
 
 -- the ten round constants, {02} ^ 0 to {02} ^ 9
 unfoldable pub round_constants : List ℕ

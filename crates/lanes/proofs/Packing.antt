@@ -48,8 +48,8 @@ pack_law w l fit e b h = pack_slots w l fit b h ∙ sixteen_from_take l (16 * b)
     long w64 e b h = omega arith
 
 -- the three layers of swaps as calls
-pub swaps_calls : (w : Width) (t : List ℕ) {k l m : List ℕ}
-    → k ≡ on8 (swaps1 (words w) w) (λ p. get_or t p 0) → l ≡ on8 (swaps2 (words w) w) (λ p. get_or k p 0)
+pub swaps_calls : (w : Width) (t : List ℕ) {k l m : List ℕ} → k ≡ on8 (swaps1 (words w) w) (λ p. get_or t p 0)
+    → l ≡ on8 (swaps2 (words w) w) (λ p. get_or k p 0)
     → m ≡ on8 (swaps4 (words w) w) (λ p. get_or l p 0) → m ≡ swaps_program (words w) w (λ p. get_or t p 0)
 swaps_calls w t p q r =
     r

@@ -11,8 +11,21 @@ use lib.Dec.{ltb}
 use lib.Arith.{digits_div, digits_mod}
 use lib.ListN.{get_or, take, drop, length, length-drop}
 use lib.Seq.{take-nil, drop-nil, take-take, drop-drop, length-take-le}
-use Rattle.fips197.specs.Aes.{sbox, sub_bytes, word_of, sixteen, rot_word, sub_word, add_word, round_constants, rcon, key_temp}
-use Rattle.fips197.specs.Aes.{rounds_for, key_words, add_round_key}
+use Rattle.fips197.specs.Aes.{
+  sbox,
+  sub_bytes,
+  word_of,
+  sixteen,
+  rot_word,
+  sub_word,
+  add_word,
+  round_constants,
+  rcon,
+  key_temp,
+  rounds_for,
+  key_words,
+  add_round_key,
+}
 use Rattle.fips197.proofs.Blocks.{reads, reads_all}
 use Rattle.fips197.proofs.Keys.{words_length, word_rule}
 use Rattle.lanes.specs.Leaves.{add_constant, key_columns}

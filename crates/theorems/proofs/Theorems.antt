@@ -431,8 +431,8 @@ door_undone d e v p q {key} {i} {x} m n =
     leaves (door_call e) n
     ∙ ap (λ (c : List (List ℕ) → List ℕ → List ℕ). each_block w64 (λ slot. c (round_keys key)) (blocks_in x) x) q
     ∙ ap₂ (each_block w64 (λ slot. v.back (round_keys key))) (blocks_are (blocks_in i) x (door_output d v p m).long) (door_left d v p m)
-    ∙ each_undone w64 (door_keeping d v p k) (record { keeps = λ b y. v.back_block (keys_of_key k) y })
-    (λ b x y. v.undone (keys_of_key k) y) (door_data d v p m)
+    ∙ each_undone w64 (door_keeping d v p k) (record { keeps = λ b y. v.back_block (keys_of_key k) y }) (λ b x y. v.undone (keys_of_key k) y)
+    (door_data d v p m)
 
 module _ {key : List ℕ} where
   -- each block is FIPS-197's Cipher, or InvCipher, of the same block under the round keys of KeyExpansion

@@ -225,9 +225,9 @@ module _ (k : ℕ) (some : 1 ≤ k) (most : k ≤ 4096) where
       → Can (on k (crypt_call c w) (λ a. a.input)) (crypt_args k s x) (replicate (16 * k) y)
   can_crypt c w p x y h l = record {
     fits = (
-        record { schedule_words_fit = p.words; input_bytes = (message_data k some x h).bytes; buffer_bytes = fit_replicate (16 * k) l },
-        message_long k some x,
-      );
+      record { schedule_words_fit = p.words; input_bytes = (message_data k some x h).bytes; buffer_bytes = fit_replicate (16 * k) l },
+      message_long k some x,
+    );
     good = record { scheduled = p.right_length; blocks = room_for x y };
   }
 
@@ -322,5 +322,5 @@ unround_one = refl
 -- a CMAC of zeros by a cipher that stops after its first round
 pub round_tag : get_or (cmac_of_block (first_round round_keys_a1) zero_block) 0 0 ≡ 0x52
 unfolding first_round round_keys_a1 add_round_key mix_columns shift_rows sub_bytes sbox affine inverse product xtime
-  cmac_of_block subkey1 double shift_left xors r128
+    cmac_of_block subkey1 double shift_left xors r128
 round_tag = refl

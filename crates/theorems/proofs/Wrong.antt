@@ -526,8 +526,8 @@ module _ (w : Width) where
   expand_writes_nothing = leaves_rest (λ key. 0) (λ key. []) (lit< tt) refl
 
   -- the first new round key only, and the rest left
-  pub expand_first_key_only : Refuted (expand_call w)
-      (λ key o. answers 0 (take (first_keys key) (schedule_of w (key_words_of key) key) ++ drop (first_keys key) o))
+  pub expand_first_key_only :
+      Refuted (expand_call w) (λ key o. answers 0 (take (first_keys key) (schedule_of w (key_words_of key) key) ++ drop (first_keys key) o))
   expand_first_key_only = leaves_rest first_keys (λ key. take (first_keys key) (schedule_of w (key_words_of key) key)) (rw nk_a1 (lit< tt))
       (length-take-le (first_keys A1.key) (schedule_of w (key_words_of A1.key) A1.key)
       (rw (schedule_length w (key_words_of A1.key) A1.key, nk_a1) (lit≤ tt)))
@@ -547,8 +547,8 @@ module _ (w : Width) where
   check_a3 = check_is A3 (ap (λ (n : ℕ). cmac_of_block (aes n key_a3) (zeros 16)) words_a3 ∙ zeros_a3)
 
   -- one that answers for A1's schedule what does not begin as it should
-  begins_another : (P : Program (check_call w)) {x : List ℕ}
-      → P (words w A1) (replicate 3 0) ≡ answers 0 x → (get_or x 0 0 ≡ 0x7a → ⊥) → Refuted (check_call w) P
+  begins_another : (P : Program (check_call w)) {x : List ℕ} → P (words w A1) (replicate 3 0) ≡ answers 0 x → (get_or x 0 0 ≡ 0x7a → ⊥)
+      → Refuted (check_call w) P
   begins_another P e h = answers_another (check_call w) (can_check w A1) P e (λ z. h (ap (λ (l : List ℕ). get_or l 0 0) (z ∙ check_a1)))
 
   pub check_refuses_everything : RefusesAll (check_call w)

@@ -26,8 +26,8 @@ returns-then-not-whole c =
 pub returns-then-output-input : goal.returns-then-output-input
 returns-then-output-input c =
     let r = a_key _ (sym c.in-Of.is ∙ c.key_size.ensures) in
-    door_4 _ _ _ _ r.keyed (sym c.zero_key-zeros.ensures ∙ c.if-zeros.false)
-    (ap not (sym c.whole_blocks-whole.ensures ∙ c.if-not-whole.false)) c.if-output-input.true
+    door_4 _ _ _ _ r.keyed (sym c.zero_key-zeros.ensures ∙ c.if-zeros.false) (ap not (sym c.whole_blocks-whole.ensures ∙ c.if-not-whole.false))
+    c.if-output-input.true
 
 pub returns-then-direction-gt1 : goal.returns-then-direction-gt1
 returns-then-direction-gt1 c =
