@@ -351,7 +351,7 @@ module _ (ρ : ℕ → ℕ) where
   agree [] (y ∷ ys) t = absurd t
   agree (x ∷ xs) [] t = absurd t
   agree (x ∷ xs) (y ∷ ys) t =
-    ap₂ ◌∷◌ (word_eq x y (both_left (same_word x.sym y.sym) (same xs ys) t)) (agree xs ys (both_right (same_word x.sym y.sym) (same xs ys) t))
+      ap₂ ◌∷◌ (word_eq x y (both_left (same_word x.sym y.sym) (same xs ys) t)) (agree xs ys (both_right (same_word x.sym y.sym) (same xs ys) t))
 
   -- THE SOUNDNESS THEOREM, for lists of blocks
   pub agree_lists : (xs ys : List (List (Related ρ))) → T (same_lists xs ys) → map (numbers ρ) xs ≡ map (numbers ρ) ys
@@ -359,7 +359,7 @@ module _ (ρ : ℕ → ℕ) where
   agree_lists [] (y ∷ ys) t = absurd t
   agree_lists (x ∷ xs) [] t = absurd t
   agree_lists (x ∷ xs) (y ∷ ys) t =
-    ap₂ ◌∷◌ (agree x y (both_left (same x y) (same_lists xs ys) t)) (agree_lists xs ys (both_right (same x y) (same_lists xs ys) t))
+      ap₂ ◌∷◌ (agree x y (both_left (same x y) (same_lists xs ys) t)) (agree_lists xs ys (both_right (same x y) (same_lists xs ys) t))
 
 -- ---- the inputs
 abbrev names : ℕ → ℕ → List Sum
