@@ -11,7 +11,7 @@ room=$(sed -n 's/^MemAvailable: *\([0-9]*\) kB$/\1/p' /proc/meminfo)
 [ $((jobs * 2000000)) -le "${room:-0}" ] || jobs=$((${room:-0} / 2000000))
 [ "$jobs" -gt 0 ] || jobs=1
 # plain x86-64: rt's own choice, x86-64-v2, would not run on every processor that the header is for
-(cd crates/host_c && "$rt" all check --jobs $jobs && "$rt" lib --cpu x86-64)
+(cd crates/host_c && "$rt" all check --jobs "$jobs" && "$rt" lib --cpu x86-64)
 mkdir -p target/staticlib
 # beside it and then renamed, so that no run links half of it
 cp crates/host_c/out/libhost_c.a target/staticlib/libhost.a.new
