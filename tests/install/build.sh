@@ -1,7 +1,6 @@
-# shellcheck shell=sh disable=SC2154 # sourced by run.sh, which sets out and lib
+# shellcheck shell=sh disable=SC2154 # sourced by run.sh, which sets out, lib and room
 # tools/build.sh over a stand-in for rt: what it says, when it builds again, and how it fails.
-tree=$(mktemp -d) # rt refuses sources below target/
-trap 'rm -rf "$tree"' EXIT
+tree=$room/tree
 mkdir -p "$tree/tools"
 cp -R crates.txt include "$tree/"
 for part in crates/*/src crates/*/specs crates/*/proofs; do

@@ -8,10 +8,12 @@ need make make
 need pkg-config pkgconf
 need python3 python3
 need readelf binutils
+# outside the checkout: below target/ rt refuses sources and symbolic links
+room=$(mktemp -d)
+trap 'rm -rf "$room"' EXIT
 . "$top/tests/install/build.sh"
-dest=$out/dest
+dest=$room/dest
 libs=$dest/usr/lib
-rm -rf "$dest"
 CC=$CC make -s install DESTDIR="$dest" PREFIX=/usr LIBDIR=/usr/lib INCLUDEDIR=/usr/include
 PKG_CONFIG_LIBDIR=$libs/pkgconfig
 PKG_CONFIG_SYSROOT_DIR=$dest
