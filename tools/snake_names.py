@@ -29,6 +29,9 @@ APART = {
     'schedule-words': 'schedule_words_fit', 'sixteen-from': 'sixteen_from_take', 'under-key': 'under_key_is', 'keys-of': 'keys_of_key',
 }
 
+# names that a file gives to what it imports
+ALIASES = {'zero-key-6', 'rorWord'}
+
 
 def snake(name):
     name = re.sub(r"(?<=[a-z0-9₀-₉'])([A-Z])", r'_\1', name)
@@ -41,14 +44,14 @@ def declared(files):
     for f in files:
         for line in open(f, encoding='utf-8'):
             m = re.match(r"^\s*(?:(?:abbrev|unfoldable|pub)\s+)*([^\s:(){}\[\].,;]+)((?:\s+[^\s:(){}]+)*)(?:\s*[({].*)?\s:\s", line)
-            if m and not line.lstrip().startswith(('--', 'let ', 'data ', 'record ', 'pub record', 'pub data', 'use ')):
+            if m and not line.lstrip().startswith(('--', 'let ', 'data ', 'record ', 'pub record ', 'pub data ', 'use ')):
                 names.add(m.group(1))
                 names.update(m.group(2).split())
     return names
 
 
 def plan():
-    words = {n for n in declared(SPECS + LEMMAS) if re.match(r"[a-z]", n) and (re.search(r"[A-Z]", n) or re.search(r".-.", n))}
+    words = {n for n in declared(SPECS + LEMMAS) if re.match(r"[a-z]", n) and (re.search(r"[A-Z]", n) or re.search(r".-.", n))} | ALIASES
     new = {n: APART.get(n, snake(n)) for n in words if snake(n) != n}
     assert len(set(new.values())) == len(new), 'two names fall together'
     return new

@@ -18,7 +18,7 @@ use Rattle.outcome.specs.Outcome.{answers}
 use Rattle.outcome.proofs.Laws.{is, is_not, differs, agrees, stop, pass}
 use Rattle.calls.specs.Calls.{key_words_of, zero_key, Taken, schedule_words, rounds_of, keys_of, whole_blocks, expand_outcome, crypt_outcome}
 use Rattle.calls.specs.Calls.{check_of, check_value, check_outcome}
-use Rattle.calls.proofs.ZeroKey.{expand_6 as zero-key-6, key_passes}
+use Rattle.calls.proofs.ZeroKey.{expand_6 as zero_key_6, key_passes}
 use Rattle.calls.proofs.WholeBlocks.{was_whole, blocks_pass}
 use Rattle.aes.specs.KeySize.{found, size_for}
 use Rattle.aes.specs.declared.KeySize.TheVariants.{Of, NoKey}
@@ -61,7 +61,7 @@ module _ (w : Width) (key s : List ℕ) where
   module _ (keyed : (key_size (length key)).nk ≡ 0 → ⊥) where
     pub expand_6 : zero_key key ≡ true → answers 6 s ≡ expand_outcome w key s
     unfolding key_words_of
-    expand_6 z = zero-key-6 key keyed z w s
+    expand_6 z = zero_key_6 key keyed z w s
 
     module _ (z : zero_key key ≡ false) where
       taken : Taken key

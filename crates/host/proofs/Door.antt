@@ -22,7 +22,7 @@ use Rattle.cipher.specs.Fixslice.{Scheduled}
 use Rattle.outcome.specs.Outcome.{answers}
 use Rattle.outcome.proofs.Laws.{is, differs, stop, pass}
 use Rattle.calls.specs.Calls.{key_words_of, zero_key, Taken, whole_blocks, TakenBlocks, directed, door_outcome}
-use Rattle.calls.proofs.ZeroKey.{door_6 as zero-key-6, key_passes}
+use Rattle.calls.proofs.ZeroKey.{door_6 as zero_key_6, key_passes}
 use Rattle.calls.proofs.WholeBlocks.{was_whole, blocks_pass}
 use Rattle.calls.proofs.Directions.{neither, one_of}
 use Rattle.host.specs.Door.{under_key}
@@ -36,7 +36,7 @@ module _ (d : ℕ) (k i o : List ℕ) where
   module _ (p : (key_size (length k)).nk ≡ 0 → ⊥) where
     pub door_6 : zero_key k ≡ true → answers 6 o ≡ door_outcome d k i o
     unfolding key_words_of
-    door_6 z = zero-key-6 k p z d i o
+    door_6 z = zero_key_6 k p z d i o
 
     module _ (z : zero_key k ≡ false) where
       taken : Taken k

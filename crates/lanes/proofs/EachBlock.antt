@@ -25,8 +25,8 @@ pub block_of : {k : ℕ} {i : List ℕ} → Data k i → (j : ℕ) → j < k →
 block_of {k} {i} d j h = record { long = part_length 16 k i d.long j h; bytes = fit_take 16 (drop (16 * j) i) (fit_drop (16 * j) i d.bytes) }
 
 -- k blocks with the same blocks are the same
-pub data-one : {k : ℕ} {i j : List ℕ} → Data k i → Data k j → ((b : ℕ) → b < k → sixteen i b ≡ sixteen j b) → i ≡ j
-data-one {k} {i} {j} d e h = parts_one 16 k i j d.long e.long h
+pub data_one : {k : ℕ} {i j : List ℕ} → Data k i → Data k j → ((b : ℕ) → b < k → sixteen i b ≡ sixteen j b) → i ≡ j
+data_one {k} {i} {j} d e h = parts_one 16 k i j d.long e.long h
 
 -- what a slot does keeps blocks
 pub record Keeping (f : ℕ → List ℕ → List ℕ) : Type 0 where
@@ -52,7 +52,7 @@ module _ (w : Width) {f : ℕ → List ℕ → List ℕ} (keeping : Keeping f) {
 -- what undoes each block undoes all
 pub each_undone : (w : Width) {f g : ℕ → List ℕ → List ℕ} {k : ℕ} {i : List ℕ} → Keeping f → Keeping g → ((b : ℕ) (x : List ℕ) → Block x → g b (f b x) ≡ x)
     → Data k i → each_block w g k (each_block w f k i) ≡ i
-each_undone w {f} {g} {k} {i} p q undoes d = data-one (each_data w q (each_data w p d)) d (λ j h.
+each_undone w {f} {g} {k} {i} p q undoes d = data_one (each_data w q (each_data w p d)) d (λ j h.
     each_at w q (each_data w p d) j h ∙ ap (g (j % slots w)) (each_at w p d j h) ∙ undoes (j % slots w) (sixteen i j) (block_of d j h))
 
 -- a full batch: slot b of a state has become that of block b, so the state is unpacked to all of them

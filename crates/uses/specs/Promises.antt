@@ -1,4 +1,4 @@
--- What functions over the exported calls promise, where lengths and keys are right, and where a key is zeros: it follows from the contracts of crate host
+-- What functions over the calls of host promise, where lengths and keys are right, and where a key is zeros: it follows from the contracts of crate host
 -- alone.
 use Rattle.std.specs.Prelude.{◌≡◌, true, List, ℕ, ◌<◌, length, take}
 use Rattle.fips197.specs.Aes.{sixteen}

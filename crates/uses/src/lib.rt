@@ -1,4 +1,4 @@
-// Functions over the exported calls, as a C program would write them. What they promise follows from the contracts of crate host and from nothing
+// Functions over the calls of host, as a C program would write them. What they promise follows from the contracts of crate host and from nothing
 // else: a contract that lost its meaning would leave this crate unproved.
 #![tactic(auto)]
 

@@ -1,4 +1,4 @@
-// The exported calls at 32 bits.
+// The calls of host at 32 bits.
 use host::{
     locker_aes_check32 as check, locker_aes_decrypt32 as decrypt, locker_aes_encrypt32 as encrypt,
     locker_aes_expand32 as expand,

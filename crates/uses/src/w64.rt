@@ -1,4 +1,4 @@
-// The exported calls at 64 bits.
+// The calls of host at 64 bits.
 use host::{
     locker_aes_check64 as check, locker_aes_decrypt64 as decrypt, locker_aes_encrypt64 as encrypt,
     locker_aes_expand64 as expand,

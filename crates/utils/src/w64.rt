@@ -22,7 +22,7 @@ pub const UNIFORM_ROW_FC: Word = 0xfff0fff0fff0fff0;
 
 ghost use Rattle.std.specs.Prelude.{◌≡◌, ◌<◌, length};
 ghost use Rattle.lanes.specs.Layout.{bits};
-ghost use Rattle.lanes.specs.Programs.{words, ror as rorWord, delta_swap1, upper, lower};
+ghost use Rattle.lanes.specs.Programs.{words, ror as ror_word, delta_swap1, upper, lower};
 
 // A row, and one, two and three columns of it.
 pub const ROW_BITS: u32 = BITS / 4;
@@ -36,7 +36,7 @@ pub const THREE_QUARTERS: u32 = 3 * QUARTER_ROW;
 // A word rotated right. Every distance lies strictly between 0 and the width.
 pub fn ror(x: Word, n: u32) -> Word
     requires { (0 < n) × (n < bits w) }
-    ensures { result ≡ rorWord (words w) w x n }
+    ensures { result ≡ ror_word (words w) w x n }
 {
     (x >> n) | (x << (BITS - n))
 }
