@@ -12,6 +12,7 @@ rm -f "$log"
 # not below target/: rt refuses sources that stand there
 tree=$(mktemp -d) || exit 1
 trap 'rm -rf "$tree"' EXIT
+trap 'exit 1' HUP INT TERM # with which no EXIT would come
 cp crates.txt "$tree/"
 for part in crates/*/src crates/*/specs crates/*/proofs; do
     [ -d "$part" ] || continue
