@@ -17,6 +17,14 @@ def functions(path, before):
     return found
 
 
+def imports(path):
+    """Each name that the clauses of a file import, with its module: with `as`, a clause of the same words could mean another thing."""
+    names = set()
+    for module, listed in re.findall(r'^ghost use ([\w.]+)\.\{([^}]*)\};', open(path, encoding='utf-8').read(), re.M):
+        names |= {(module, name.strip()) for name in listed.split(',') if name.strip()}
+    return names
+
+
 def main():
     host = functions('crates/host/src/lib.rt', r'pub ')
     exports = functions('crates/host_c/src/lib.rt', r'#\[unsafe\(no_mangle\)\]\npub extern "C" ')
@@ -30,6 +38,8 @@ def main():
         params = ', '.join(re.findall(r'(\w+): ', exports[name][0]))
         if exports[name][3] != f'host::{name}({params})':
             faults.append(f'{name}: in host_c it is not a call of host::{name} with its arguments')
+    for module, name in sorted(imports('crates/host_c/src/lib.rt') - imports('crates/host/src/lib.rt')):
+        faults.append(f'host_c takes {name} of {module}, and host does not')
     exported = len(re.findall(r'no_mangle', open('crates/host_c/src/lib.rt', encoding='utf-8').read()))
     if exported != len(exports):
         faults.append(f'host_c exports {exported} functions, of which {len(exports)} are read here')

@@ -1,7 +1,7 @@
 #!/usr/bin/env python3
 """check-widths.py: what stands twice, at 32 and at 64 bits, is the same text twice.
 
-The language has no generics, so a module NAME32 (src/NAME32.rt, proofs/NAME32/) has a twin NAME64. In each of their files a line
+The language had no generics when this was written, so a module NAME32 (src/NAME32.rt, proofs/NAME32/) has a twin NAME64. In each of their files a line
 
     // ---- the same at both widths        (in a proof: -- ---- the same at both widths)
 
@@ -19,7 +19,7 @@ MARKS = {".rt": "// ---- the same at both widths", ".antt": "-- ---- the same at
 EXCEPTIONS = {
     "crates/word/src/blocks32.rt": "a column is a word of 32 bits; half a block is one of 64, and the two halves are swapped",
     "crates/word/proofs/blocks32": "the proofs of that",
-    "crates/uses/proofs/w32": "the exported calls have their width in their names, and a proof names a call's facts by the call",
+    "crates/uses/proofs/w32": "the calls of host have their width in their names, and a proof names a call's facts by the call",
     "crates/hex_text/src/w32.rt": "a number of 64 bits is a word as it stands; a word of 32 bits is cut from one and widened again",
 }
 

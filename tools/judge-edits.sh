@@ -26,7 +26,7 @@ for edit; do
     [ -f "$edit" ] || continue
     crate=$(basename "$(dirname "$(dirname "$edit")")")
     name=$crate/$(basename "$edit" .edit)
-    log=target/must-fail/$name.log
+    log=target/must-fail/$name/.log
     # its check has ended, and not as proved: else nothing is known of it
     if ! [ -f "$log" ] || ! grep -q '^logic=not-proved' "$log" || [ "$(tail -n 1 "$log")" != 'exit 1' ]; then
         say unfit "$name" all "no check has refused it, see $log"

@@ -1,12 +1,12 @@
 #!/bin/sh
-# Checks a crate with its must-fail edit made, in a copy outside the checkout, and writes all that the prover says to target/must-fail/CRATE/EDIT.log:
+# Checks a crate with its must-fail edit made, in a copy outside the checkout, and writes all that the prover says to target/must-fail/CRATE/EDIT/.log:
 # tools/try-edit.sh crates/CRATE/must-fail/EDIT.edit. `rt ci` itself keeps the first line of a refusal only, and an edit has several faults. The copy
 # begins with what tools/archive.sh proved, so mostly what the edit touches is proved. The log's last line is `exit STATUS`.
 set -u
 cd "$(dirname "$0")/.." || exit 1
 edit=$1
 crate=$(basename "$(dirname "$(dirname "$edit")")")
-log=$PWD/target/must-fail/$crate/$(basename "$edit" .edit).log
+log=$PWD/target/must-fail/$crate/$(basename "$edit" .edit)/.log
 mkdir -p "$(dirname "$log")"
 rm -f "$log"
 # not below target/: rt refuses sources that stand there

@@ -8,10 +8,11 @@ use native.Mathlib.Omega.{arith}
 use lib.ListN.{take, drop, length, length-append, length-drop, take-append-drop, drop_of_length-le}
 use lib.Seq.{take_all, take-add, take_at, length-take-le}
 use Rattle.fips197.specs.Aes.{sixteen}
-use Rattle.lanes.specs.Layout.{Width, slots}
+use Rattle.lanes.specs.Layout.{Width, w32, w64, slots}
 use Rattle.lanes.specs.Schedule.{each_block, blocks_in}
 use Rattle.lanes.proofs.EachBlock.{some_slot}
 use Rattle.lanes.proofs.Cuts.{blocks_are, each_front, each_cut, each_take}
+use Rattle.cipher.specs.Fixslice.{Scheduled, Whole}
 use Rattle.cipher.proofs.Loop.{written, written_long}
 
 -- ---- copying: i blocks are done
@@ -43,11 +44,24 @@ module _ (from : List ℕ) {to₀ : List ℕ} where
   pub blocks_all : {to : List ℕ} (i : ℕ) → length from ≡ 16 * i → length to₀ ≡ length from → BlocksDone from i to₀ to → to ≡ from
   blocks_all {to} i e out t = sym (take_all (16 * i) to (omega (arith, t.long))) ∙ t.done ∙ take_all (16 * i) from (omega arith)
 
+-- a batch is full batches
+one_batch : (w : Width) → 16 * slots w % (16 * slots w) ≡ 0
+one_batch w32 = refl
+one_batch w64 = refl
+
 -- ---- blocks p at the front of a batch that was z: ws is the part that they were copied to, as it is given back
 module _ (w : Width) {p ws : List ℕ} (z : List ℕ) (k : ℕ) (all : k ≡ length p) (copied : ws ≡ p) (batch : length z ≡ 16 * slots w)
     (most : length p ≤ 16 * slots w) where
   pub front_length : length (take 0 z ++ (ws ++ drop k (drop 0 z))) ≡ 16 * slots w
   front_length = simp (length-append, length-drop) (omega (arith, ap length copied))
+
+  -- it is a full batch, with as much room for what it becomes
+  pub front_ready : {n s o : ℕ} → Scheduled n s → o ≡ 16 * slots w → Whole (16 * slots w) n s (length (take 0 z ++ (ws ++ drop k (drop 0 z)))) o
+  front_ready schedule room = record {
+    schedule = schedule;
+    whole = ap (λ (l : ℕ). l % (16 * slots w)) front_length ∙ one_batch w;
+    output = room ∙ sym front_length;
+  }
 
   -- the first of what the batch becomes is what they become
   pub front_is : (f : ℕ → List ℕ → List ℕ) → ((b : ℕ) (x : List ℕ) → length (f b x) ≡ 16) → length p % 16 ≡ 0 → {out : List ℕ}

@@ -15,7 +15,7 @@ abbrev pub machine : Width → M.Width
 machine w32 = M.w32
 machine w64 = M.w64
 
--- of an array parameter: `array_fit w start.args.state _ start.well-formed.0.1.1`
+-- of an array parameter: `array_fit w c.args.state _ c.well_formed.0.1.1`
 pub array_fit : (w : Width) (xs : List ℕ) (us : List Val) → shadow (each ℕ (UInt (machine w)).own_val xs us) → Fit (bits w) xs
 array_fit w32 xs us h = record { at = λ p. (elem_Fits M.w32 M.w32 xs us p h tt).fits }
 array_fit w64 xs us h = record { at = λ p. (elem_Fits M.w64 M.w64 xs us p h tt).fits }

@@ -2,7 +2,7 @@
 -- rule for round keys. Assumes nothing.
 use mathlib.Core.Path.{◌≡◌, refl, sym, ap, ap₂, ◌∙◌, subst}
 use mathlib.Core.List.{List, ◌++◌}
-use Prim.Native.Nat.{ℕ, zero, suc, ◌+◌, ◌-◌, ◌*◌, ◌≤◌, ◌<◌}
+use Prim.Native.Nat.{ℕ, zero, suc, ◌+◌, ◌-◌, ◌*◌, ◌/◌, ◌≤◌, ◌<◌}
 use native.Mathlib.Decide.{dec_lt}
 use native.Mathlib.Omega.{arith}
 use lib.ListN.{get_or, take, drop, length}
@@ -190,3 +190,11 @@ pub record AtConstant (w : Width) (m from j : ℕ) (l₀ l : List ℕ) : Type 0 
 pub record AtStep (w : Width) (m from p : ℕ) (l₀ l : List ℕ) : Type 0 where
   pub few : p ≤ m
   pub grown : Grown w (4 * m) from (from + p) l₀ l
+
+-- what a step asks for that does not begin at the end: the next key follows the m before it, and has room
+pub step_follows : {w : Width} {m from j p : ℕ} {l₀ l₁ l : List ℕ} → AtConstant w m from j l₀ l₁ → AtStep w m from p l₁ l
+    → length l₀ ≡ 8 * (4 * m + 7) → from + p < length l₀ / 8 → Follows m (from + p) (length l)
+step_follows {m = m} {l = l} c s words there =
+    let late = begins_late c.begins in
+    let long : length l ≡ 8 * (4 * m + 7) = s.grown.long ∙ c.grown.long ∙ words in
+    record { some = c.begins.some; old = omega arith; room = omega arith }

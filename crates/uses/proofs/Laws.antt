@@ -1,4 +1,4 @@
--- From the contracts of the exported calls, `answers r x ≡ its outcome`, by the theorems of the calls: nothing else of crate host is known here.
+-- From the contracts of the calls of host, `answers r x ≡ its outcome`, by the theorems of the calls: nothing else of crate host is known here.
 -- Once over the width. Assumes nothing.
 use mathlib.Core.Path.{◌≡◌, refl, sym, ◌∙◌, ap}
 use mathlib.Core.List.{List}
@@ -174,6 +174,11 @@ pub record Lent (w : Width) (schedule three first twice second : List ℕ) : Typ
   pub first_bytes : Fit 8 first
   pub twice_bytes : Fit 8 twice
   pub second_bytes : Fit 8 second
+
+-- what a call said of a block z that is zeros
+pub of_zeros : (w : Width) (s f : List ℕ) {z x : List ℕ} {r : ℕ} → z ≡ replicate 16 0 → answers r x ≡ encrypt_outcome w s z f
+    → answers r x ≡ encrypt_outcome w s (replicate 16 0) f
+of_zeros w s f e a = a ∙ ap (λ (z : List ℕ). encrypt_outcome w s z f) e
 
 module _ (w : Width) {s t f d o : List ℕ} (lent : Lent w s t f d o) where
   checking : {r : ℕ} {x : List ℕ} → answers r x ≡ check_outcome w s t → (rounds_of s ≡ 0 → ⊥) → length t ≡ 3 → Checks w s x

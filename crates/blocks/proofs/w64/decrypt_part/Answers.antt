@@ -3,29 +3,21 @@ use Rattle.lanes.specs.Layout.{w64 as w}
 use Rattle.blocks.proofs.w64.decrypt_part.Goals as goal
 -- ---- the same at both widths
 use borrow.Author.Rules.{rules}
-use mathlib.Core.Path.{◌≡◌, sym, ◌∙◌}
-use mathlib.Core.List.{◌++◌}
-use Prim.Native.Nat.{◌-◌, ◌*◌}
+use mathlib.Core.Path.{sym, ◌∙◌}
+use Prim.Native.Nat.{◌-◌}
 use native.Mathlib.Omega.{arith}
-use lib.ListN.{length, drop}
-use Rattle.lanes.specs.Layout.{slots}
+use lib.ListN.{length}
 use Rattle.cipher.proofs.Batches.{backwards, crypted_long}
-use Rattle.blocks.proofs.Parts.{front_length, front_is}
+use Rattle.blocks.proofs.Parts.{front_length, front_ready, front_is}
 
 pub slice_bounds-decrypt_batches-end : goal.slice_bounds-decrypt_batches-end
 slice_bounds-decrypt_batches-end c =
-    let zeros : length c.zeros-batch.result ≡ 16 * slots w = search rules in
-    let full : length (c.copy_blocks.new.to ++ drop (length c.args.input.now - 0) c.zeros-batch.result) ≡ 16 * slots w =
-    front_length w c.zeros-batch.result (length c.args.input.now - 0) (omega arith) c.copy_blocks.ensures zeros c.requires.most in
-    sym full
+    sym (front_length w c.zeros-batch.result (length c.args.input.now - 0) (omega arith) c.copy_blocks.ensures (search rules) c.requires.most)
 
 pub decrypt_batches-requires : goal.decrypt_batches-requires
 decrypt_batches-requires c =
-    let zeros : length c.zeros-batch.result ≡ 16 * slots w = search rules in
-    let full : length (c.copy_blocks.new.to ++ drop (length c.args.input.now - 0) c.zeros-batch.result) ≡ 16 * slots w =
-    front_length w c.zeros-batch.result (length c.args.input.now - 0) (omega arith) c.copy_blocks.ensures zeros c.requires.most in
-    let out : length c.zeros-out.result ≡ 16 * slots w = search rules in
-    record { schedule = c.requires.lent.schedule; whole = omega (arith, full); output = out ∙ sym full }
+    front_ready w c.zeros-batch.result (length c.args.input.now - 0) (omega arith) c.copy_blocks.ensures (search rules) c.requires.most
+    c.requires.lent.schedule (search rules)
 
 pub returns : goal.returns
 returns c =
