@@ -16,6 +16,7 @@ pub enum KeySize {
     NoKey,
 }
 
+#[tactic(auto, unfolding(lanes::specs::Sizes::key_size, crate::specs::KeySize::size_for))]
 pub fn key_size(bytes: usize) -> KeySize
     ensures { result ≡ size_for bytes }
 {
@@ -52,6 +53,7 @@ pub fn whole_blocks(bytes: usize) -> bool
 }
 
 // The number of rounds of a schedule of so many words; 0 where it is none.
+#[tactic(auto, unfolding(lanes::specs::Sizes::schedule_size))]
 fn rounds_of(words: usize) -> usize
     ensures { result ≡ (schedule_size words).rounds }
 {

@@ -5,6 +5,12 @@ use Rattle.lanes.proofs.Machine.{byte_fit}
 use Rattle.host.proofs.Door.{scheduled, door_crypts, encrypts, decrypts}
 use Rattle.host.proofs.crypt_with.Goals as goal
 
+pub returns : goal.returns
+returns c =
+    door_crypts c.args.key.now c.requires.keyed (byte_fit c.args.key.now c.type_inv.key) inv_cipher
+    c.args.input.now c.args.direction
+    (decrypts c.args.direction (search rules)) c.requires.rounds_are c.key_schedule.ensures c.decrypt.ensures
+
 pub encrypt-requires : goal.encrypt-requires
 encrypt-requires c =
     record {
@@ -26,9 +32,3 @@ decrypt-requires c =
       whole = c.requires.whole;
       output = c.requires.output;
     }
-
-pub returns : goal.returns
-returns c =
-    door_crypts c.args.key.now c.requires.keyed (byte_fit c.args.key.now c.type_inv.key) inv_cipher
-    c.args.input.now c.args.direction
-    (decrypts c.args.direction (search rules)) c.requires.rounds_are c.key_schedule.ensures c.decrypt.ensures
