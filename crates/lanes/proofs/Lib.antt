@@ -7,6 +7,7 @@ pub mod Packing
 pub mod Circuits
 pub mod SubBytes
 pub mod Machine
+pub mod Values
 pub mod Calls
 pub mod Parts
 pub mod Sizes

@@ -1,87 +1,77 @@
-// The width of 64 bits: four blocks in eight words. A row has 16 bits, a column of it 4.
-ghost use Rattle.lanes.specs.Layout.{w64 as w};
+// Words of 64 bits: four blocks in eight of them. A row has 16 bits, a column of it 4.
+ghost use Rattle.std.specs.Prelude.{◌≡◌, ◌<◌, ◌%◌, ◌^◌, refl};
+ghost use Rattle.std.proofs.Math.Nat.{mod-lt};
+ghost use Rattle.std.proofs.Math.Dec.{lit<};
+ghost use Rattle.lanes.specs.Layout.{w64};
+ghost use Rattle.lanes.specs.Masks.{double_bits};
 
-type Word = u64;
+use super::word::Word;
 
-const BITS: u32 = 64;
+impl Word for u64 {
+    ghost width = { w64 };
 
-// The Rust's uniform_row: the same byte to every row.
-pub const UNIFORM_ROW_03: Word = 0x000f000f000f000f;
+    ghost value = { λ x. x % 2 ^ 64 };
 
-pub const UNIFORM_ROW_0F: Word = 0x00ff00ff00ff00ff;
+    const BITS: u32 = 64;
 
-pub const UNIFORM_ROW_3F: Word = 0x0fff0fff0fff0fff;
+    ghost BITS = { 64 };
 
-pub const UNIFORM_ROW_C0: Word = 0xf000f000f000f000;
+    fn xor(self, other: u64) -> u64 {
+        self ^ other
+    }
 
-pub const UNIFORM_ROW_F0: Word = 0xff00ff00ff00ff00;
+    fn and(self, other: u64) -> u64 {
+        self & other
+    }
 
-pub const UNIFORM_ROW_FC: Word = 0xfff0fff0fff0fff0;
+    fn or(self, other: u64) -> u64 {
+        self | other
+    }
 
-// ---- the same at both widths
+    fn not(self) -> u64 {
+        !self
+    }
 
-ghost use Rattle.std.specs.Prelude.{◌≡◌, ◌<◌, length};
-ghost use Rattle.lanes.specs.Layout.{bits};
-ghost use Rattle.lanes.specs.Programs.{words, ror as ror_word, delta_swap1, upper, lower};
+    fn shl(self, n: u32) -> u64 {
+        self << n
+    }
 
-// A row, and one, two and three columns of it.
-pub const ROW_BITS: u32 = BITS / 4;
+    fn shr(self, n: u32) -> u64 {
+        self >> n
+    }
 
-pub const QUARTER_ROW: u32 = ROW_BITS / 4;
+    fn times(self, bit: u8) -> u64 {
+        self * (bit as u64)
+    }
 
-pub const HALF_ROW: u32 = ROW_BITS / 2;
+    fn pack_rows(r0: u8, r1: u8, r2: u8, r3: u8) -> u64 {
+        double_bits(r0)
+            + double_bits(r1) * 0x10000
+            + double_bits(r2) * 0x100000000
+            + double_bits(r3) * 0x1000000000000
+    }
 
-pub const THREE_QUARTERS: u32 = 3 * QUARTER_ROW;
+    fn uniform_row(byte: u8) -> u64 {
+        double_bits(byte) * 0x0001000100010001
+    }
 
-// A word rotated right. Every distance lies strictly between 0 and the width.
-pub fn ror(x: Word, n: u32) -> Word
-    requires { (0 < n) × (n < bits w) }
-    ensures { result ≡ ror_word (words w) w x n }
-{
-    (x >> n) | (x << (BITS - n))
+    fn byte_repeat(byte: u8) -> u64 {
+        (byte as u64) * 0x0101010101010101
+    }
+
+    ghost bits_is = { refl };
+
+    ghost fits = { λ x. mod-lt x (lit< tt) };
 }
 
-pub fn delta_swap_1(a: Word, shift: u32, mask: Word) -> Word
-    requires { shift < bits w }
-    ensures { result ≡ delta_swap1 (words w) w shift mask a }
+// Bit i becomes bits 2i and 2i + 1: the bits are spread to the even places in three steps, and each is then doubled.
+fn double_bits(byte: u8) -> u64
+    ensures doubled { result ≡ double_bits byte }
+    ensures fits { result < 2 ^ 16 }
 {
-    let t = (a ^ (a >> shift)) & mask;
-    a ^ (t ^ (t << shift))
-}
-
-// The two words after a swap.
-#[derive(Drop)]
-pub struct Pair(pub Word, pub Word);
-
-pub fn delta_swap_2(a: Word, b: Word, shift: u32, mask: Word) -> Pair
-    requires { shift < bits w }
-    ensures { (result.0 ≡ upper (words w) w shift mask a b) × (result.1 ≡ lower (words w) w shift mask a b) }
-{
-    let t = (a ^ (b >> shift)) & mask;
-    Pair(a ^ t, b ^ (t << shift))
-}
-
-// The eight words of a part of a schedule as one value.
-pub fn load(part: &[Word]) -> [Word; 8]
-    requires { length part.now ≡ 8 }
-    ensures { result ≡ part.now }
-{
-    [
-        part[0], part[1], part[2], part[3], part[4], part[5], part[6], part[7],
-    ]
-}
-
-// One value into the eight words of a part of a schedule.
-pub fn store(part: &mut [Word], state: [Word; 8])
-    requires { length part.old ≡ 8 }
-    ensures { part.new ≡ state }
-{
-    part[0] = state[0];
-    part[1] = state[1];
-    part[2] = state[2];
-    part[3] = state[3];
-    part[4] = state[4];
-    part[5] = state[5];
-    part[6] = state[6];
-    part[7] = state[7];
+    let a = byte as u64;
+    let b = (a | (a << 4)) & 0x0f0f;
+    let c = (b | (b << 2)) & 0x3333;
+    let d = (c | (c << 1)) & 0x5555;
+    d | (d << 1)
 }
