@@ -1,22 +1,16 @@
-// Encryption and decryption of any number of blocks, over full batches: what is left after these is worked on in a batch of its own.
+// Any number of blocks under any words as a schedule, over full batches: what is left after these is worked on in a batch of its own.
 #![tactic(auto)]
 
-pub mod w32;
-pub mod w64;
-
-ghost use Rattle.std.specs.Prelude.{◌≡◌, length};
+ghost use Rattle.std.specs.Prelude.{◌≡◌, ◌*◌, ◌%◌, ◌≤◌, map, length};
+ghost use Rattle.fips197.specs.Aes.{cipher};
+ghost use Rattle.lanes.specs.Layout.{slots};
+ghost use Rattle.lanes.specs.Schedule.{reading, crypted};
 ghost use Rattle.blocks.specs.Part.{Copied};
 
-// The sixteen bytes of a part as one value.
-fn load16(part: &[u8]) -> [u8; 16]
-    requires { length part.now ≡ 16 }
-    ensures { result ≡ part.now }
-{
-    [
-        part[0], part[1], part[2], part[3], part[4], part[5], part[6], part[7], part[8], part[9],
-        part[10], part[11], part[12], part[13], part[14], part[15],
-    ]
-}
+use cipher::crypt_batches;
+use cipher::direction::{Direction, Encrypt};
+use cipher::schedule::Schedule;
+use word::packed::Packed;
 
 // Copies whole blocks, and not byte by byte: of that clang makes a call of memcpy, which the library asks nobody for.
 fn copy_blocks(from: &[u8], to: &mut [u8])
@@ -25,6 +19,76 @@ fn copy_blocks(from: &[u8], to: &mut [u8])
 {
     for i in 0..from.len() / 16 {
         let at = 16 * i;
-        word::copy16(load16(&from[at..at + 16]), &mut to[at..at + 16]);
+        to[at..at + 16].copy_from_slice(&from[at..at + 16]);
     }
+}
+
+// A batch of zero bytes at the longer width. A call, so that a goal says its result and not every byte.
+fn zeros() -> [u8; 64] {
+    [0u8; 64]
+}
+
+// At most a batch, in a batch that is lent: the slots that are left hold zeros, and what becomes of these is dropped.
+fn crypt_in<D: Direction, W: Packed>(schedule: Schedule<W>, input: &[u8], output: &mut [u8], batch: &mut [u8], out: &mut [u8])
+    requires whole { length input.now % 16 ≡ 0 }
+    requires most { length input.now ≤ 16 * slots W.width }
+    requires output { length output.old ≡ length input.now }
+    requires batch { length batch.old ≡ 16 * slots W.width }
+    requires out { length out.old ≡ 16 * slots W.width }
+    ensures { output.new ≡ crypted D.crypt W.width schedule.entry.rounds (map W.value schedule.entry.words.now) input.now }
+{
+    copy_blocks(input, &mut batch[0..input.len()]);
+    crypt_batches::<D, W>(schedule, batch, out);
+    copy_blocks(&out[0..input.len()], output);
+}
+
+// At most a batch, in one of its own.
+fn crypt_part<D: Direction, W: Packed>(schedule: Schedule<W>, input: &[u8], output: &mut [u8])
+    requires whole { length input.now % 16 ≡ 0 }
+    requires most { length input.now ≤ 16 * slots W.width }
+    requires output { length output.old ≡ length input.now }
+    ensures { output.new ≡ crypted D.crypt W.width schedule.entry.rounds (map W.value schedule.entry.words.now) input.now }
+{
+    let mut batch = zeros();
+    let mut out = zeros();
+    crypt_in::<D, W>(schedule, input, output, &mut batch[0..W::BATCH], &mut out[0..W::BATCH]);
+}
+
+// Any number of blocks: the full batches, and then the part of one that is left. (Less than one at once: docs/DECISIONS.md, 48.)
+pub fn crypt<D: Direction, W: Packed>(schedule: Schedule<W>, input: &[u8], output: &mut [u8])
+    requires whole { length input.now % 16 ≡ 0 }
+    requires output { length output.old ≡ length input.now }
+    ensures { output.new ≡ crypted D.crypt W.width schedule.entry.rounds (map W.value schedule.entry.words.now) input.now }
+{
+    let len = input.len();
+    if len < W::BATCH {
+        crypt_part::<D, W>(schedule, input, output);
+        return;
+    }
+    let full = W::BATCH * (len / W::BATCH);
+    crypt_batches::<D, W>(schedule, &input[0..full], &mut output[0..full]);
+    if full == len {
+        return;
+    }
+    crypt_part::<D, W>(schedule, &input[full..len], &mut output[full..len]);
+}
+
+// One block under the round keys of slot 0, in a batch that is lent, without the loops of a part.
+fn block_in<W: Packed>(schedule: Schedule<W>, block: [u8; 16], batch: &mut [u8], out: &mut [u8]) -> [u8; 16]
+    requires batch { length batch.old ≡ 16 * slots W.width }
+    requires out { length out.old ≡ 16 * slots W.width }
+    ensures { result ≡ cipher (reading W.width schedule.entry.rounds (map W.value schedule.entry.words.now) 0) block }
+{
+    batch[0..16].copy_from_slice(&block);
+    crypt_batches::<Encrypt, W>(schedule, batch, out);
+    *out[0..16].as_array().unwrap()
+}
+
+// One block under the round keys of slot 0, in a batch of its own.
+pub fn encrypt_block<W: Packed>(schedule: Schedule<W>, block: [u8; 16]) -> [u8; 16]
+    ensures { result ≡ cipher (reading W.width schedule.entry.rounds (map W.value schedule.entry.words.now) 0) block }
+{
+    let mut batch = zeros();
+    let mut out = zeros();
+    block_in(schedule, block, &mut batch[0..W::BATCH], &mut out[0..W::BATCH])
 }

@@ -1,5 +1,26 @@
-// aes128.rs and aes256.rs of the Rust: encryption and decryption of full batches, over the number of rounds.
+// aes128.rs and aes256.rs of the Rust: full batches under any words as a schedule, once over the width, the number of rounds and the direction.
 #![tactic(auto)]
 
-pub mod w32;
-pub mod w64;
+pub mod direction;
+pub mod schedule;
+
+ghost use Rattle.std.specs.Prelude.{◌≡◌, ◌*◌, ◌%◌, map, length};
+ghost use Rattle.lanes.specs.Layout.{slots};
+ghost use Rattle.lanes.specs.Schedule.{crypted};
+
+use direction::Direction;
+use schedule::Schedule;
+use word::packed::Packed;
+
+// Full batches, one after the other: in a loop round the round loop clang inlines the S-box (docs/SPEED.md).
+pub fn crypt_batches<D: Direction, W: Packed>(schedule: Schedule<W>, input: &[u8], output: &mut [u8])
+    requires whole { length input.now % (16 * slots W.width) ≡ 0 }
+    requires output { length output.old ≡ length input.now }
+    ensures { output.new ≡ crypted D.crypt W.width schedule.entry.rounds (map W.value schedule.entry.words.now) input.now }
+{
+    for i in 0..input.len() / W::BATCH {
+        let at = W::BATCH * i;
+        let end = at + W::BATCH;
+        D::batch(schedule, &input[at..end], &mut output[at..end]);
+    }
+}

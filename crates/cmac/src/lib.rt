@@ -1,11 +1,14 @@
-// CMAC, NIST SP 800-38B, of a message of one complete block, by the cipher of slot 0.
+// CMAC, NIST SP 800-38B, of a message of one complete block, by the cipher of slot 0, under any words as a schedule.
 #![tactic(auto)]
 
-pub mod w32;
-pub mod w64;
+ghost use Rattle.std.specs.Prelude.{◌≡◌, map};
+ghost use Rattle.fips197.specs.Aes.{cipher};
+ghost use Rattle.lanes.specs.Schedule.{reading};
+ghost use Rattle.sp800_38b.specs.Cmac.{xors, double as doubled, subkey1, subkey2, cmac_of_block};
 
-ghost use Rattle.std.specs.Prelude.{◌≡◌};
-ghost use Rattle.sp800_38b.specs.Cmac.{xors, double as doubled};
+use blocks::encrypt_block;
+use cipher::schedule::Schedule;
+use word::packed::Packed;
 
 // SP 800-38B's K1 and K2.
 #[derive(Drop)]
@@ -40,4 +43,22 @@ pub fn xor(x: [u8; 16], y: [u8; 16]) -> [u8; 16]
         sum[i] ^= y[i];
     }
     sum
+}
+
+// SUBK, 6.1, of the round keys of slot 0: twice the encryption of zeros, and twice that.
+pub fn subk<W: Packed>(schedule: Schedule<W>) -> Subkeys
+    ensures k1 { result.k1 ≡ subkey1 (cipher (reading W.width schedule.entry.rounds (map W.value schedule.entry.words.now) 0)) }
+    ensures k2 { result.k2 ≡ subkey2 (cipher (reading W.width schedule.entry.rounds (map W.value schedule.entry.words.now) 0)) }
+{
+    let k1 = double(encrypt_block(schedule, [0u8; 16]));
+    Subkeys { k1, k2: double(k1) }
+}
+
+// The tag of a message of one complete block, in full length.
+pub fn tag_of_block<W: Packed>(schedule: Schedule<W>, message: [u8; 16]) -> [u8; 16]
+    ensures { result ≡ cmac_of_block (cipher (reading W.width schedule.entry.rounds (map W.value schedule.entry.words.now) 0)) message }
+{
+    let subkeys = subk(schedule);
+    let k1 = subkeys.k1;
+    encrypt_block(schedule, xor(k1, message))
 }

@@ -1,20 +1,20 @@
 -- The round keys adjusted so far, and all parts of the expansion together, once over the width and the key's length: the words that are left
 -- hold each round key as it is written, and those are the schedule. Assumes nothing.
 use mathlib.Core.Path.{◌≡◌, refl, ap, ◌∙◌}
-use mathlib.Core.List.{List, ◌++◌}
+use mathlib.Core.List.{List}
 use Prim.Native.Nat.{ℕ, zero, suc, ◌+◌, ◌*◌, ◌%◌, ◌≤◌, ◌<◌}
 use native.Mathlib.Decide.{dec_lt}
 use native.Mathlib.Omega.{arith}
 use borrow.Author.Tests.{eq-eqb, ne_eqb}
-use lib.ListN.{take, drop, length}
+use lib.ListN.{length}
 use Rattle.fips197.specs.Bytes.{Fit}
 use Rattle.fips197.specs.Aes.{sixteen, rounds_for, key_words}
 use Rattle.lanes.specs.Layout.{Width, bits, slots}
-use Rattle.lanes.specs.Schedule.{add63, rows_unshifted, stored, write_key, schedule_of}
-use Rattle.lanes.specs.Leaves.{Does, all}
+use Rattle.lanes.specs.Schedule.{add63, rows_unshifted, words_at, stored, write_key, schedule_of}
+use Rattle.lanes.specs.Leaves.{Does, all, put}
 use Rattle.schedule.specs.Steps.{Keys, Adjusted}
 use Rattle.schedule.proofs.Reading.{schedule_is}
-use Rattle.schedule.proofs.Passes.{Changed, lent, stored_before, stored_after, stored_here}
+use Rattle.schedule.proofs.Passes.{Changed, passed, stored_before, stored_after, stored_here}
 
 -- ---- the round keys adjusted so far
 -- those below r, of those below `end`
@@ -47,13 +47,12 @@ module _ (w : Width) (f : ℕ → List ℕ → List ℕ) where
           let fits : 8 * r + 8 ≤ length l = omega (arith, d.fits) in
           rw e (stored_here d b h r refl ∙ ap (f r) (t.outer b h r (omega arith) fits))
 
-  -- the schedule m so far, and round key r lent and given back, k being 8 * r + 8 - 8 * r
-  pub adjusted_lent : (r k : ℕ) {end : ℕ} {l m ws : List ℕ} → k ≡ 8 → r < end → 8 * r + 8 ≤ length m → length ws ≡ 8
-      → Does w (all (f r)) (take k (drop (8 * r) m)) ws → AdjustedSo w f end r l m
-      → AdjustedSo w f end (r + 1) l (take (8 * r) m ++ (ws ++ drop k (drop (8 * r) m)))
-  adjusted_lent r k e less fits eight d t =
-      let c = lent w (8 * r) k e fits eight d in
-      record { some = omega arith; few = omega arith; long = c.long ∙ t.long; done = adjusted_more r t.some t.long t.done c }
+  -- the schedule m so far, and round key r loaded, worked on and stored
+  pub adjusted_on : (r : ℕ) {end : ℕ} {l m m' x y : List ℕ} → r < end → 8 * r + 8 ≤ length m → length m' ≡ length m → length y ≡ 8
+      → x ≡ words_at m (8 * r) → Does w (all (f r)) x y → m' ≡ put m (8 * r) y → AdjustedSo w f end r l m → AdjustedSo w f end (r + 1) l m'
+  adjusted_on r less fits long eight loaded d kept t =
+      let c = passed (8 * r) fits long eight loaded d kept in
+      record { some = omega arith; few = omega arith; long = long ∙ t.long; done = adjusted_more r t.some t.long t.done c }
 
 -- ---- a round key as it is held: the last by its NOTs only, another by its row shifts before them
 written_last : (n r : ℕ) (k : List ℕ) → 1 ≤ r → r ≡ n → add63 k ≡ write_key n r k

@@ -1,7 +1,7 @@
 -- The round keys so far, once over the width and the key's length: the key's own blocks come first, and each step leaves one more, by FIPS-197's
 -- rule for round keys. Assumes nothing.
 use mathlib.Core.Path.{◌≡◌, refl, sym, ap, ap₂, ◌∙◌, subst}
-use mathlib.Core.List.{List, ◌++◌}
+use mathlib.Core.List.{List}
 use Prim.Native.Nat.{ℕ, zero, suc, ◌+◌, ◌-◌, ◌*◌, ◌/◌, ◌≤◌, ◌<◌}
 use native.Mathlib.Decide.{dec_lt}
 use native.Mathlib.Omega.{arith}
@@ -10,10 +10,10 @@ use Rattle.fips197.specs.Aes.{sixteen, round_constants, key_words}
 use Rattle.fips197.proofs.Keys.{key_first}
 use Rattle.lanes.specs.Layout.{Width, slots, slot}
 use Rattle.lanes.specs.Schedule.{stored}
-use Rattle.lanes.specs.Leaves.{key_columns, Changes}
+use Rattle.lanes.specs.Leaves.{key_columns, put, Changes}
 use Rattle.schedule.specs.Steps.{Follows, key_pass, next_of, step_constant, step_rows, Loaded, Keys, Grows}
 use Rattle.schedule.proofs.RoundKeys.{sixteen_take, next_constant, next_plain}
-use Rattle.schedule.proofs.Passes.{Changed, lent, stored_before, stored_here}
+use Rattle.schedule.proofs.Passes.{Changed, passed, stored_before, stored_here}
 
 -- ---- the blocks of the key, in every slot
 -- i of m so far
@@ -25,20 +25,17 @@ pub record LoadedSo (w : Width) (m i : ℕ) (key l₀ l : List ℕ) : Type 0 whe
 pub loaded_none : {w : Width} {m : ℕ} {key l : List ℕ} → LoadedSo w m 0 key l l
 loaded_none = record { few = omega arith; long = refl; done = record { at = λ b h r k. absurd (omega arith) } }
 
--- block i broadcast to s, and s stored: j is 16 * i + 16 - 16 * i, and k is 8 * i + 8 - 8 * i
-pub loaded_lent : (w : Width) (i j k : ℕ) {m : ℕ} {key l₀ l s : List ℕ} (ws : List ℕ) → j ≡ 16 → k ≡ 8 → i < m → 8 * i + 8 ≤ length l → length ws ≡ 8
-    → ((b : ℕ) → b < slots w → slot w s b ≡ take j (drop (16 * i) key)) → ws ≡ s → LoadedSo w m i key l₀ l
-    → LoadedSo w m (i + 1) key l₀ (take (8 * i) l ++ (ws ++ drop k (drop (8 * i) l)))
-loaded_lent w i j k {key = key} {l₀} {l} ws ej ek less fits eight each kept t =
-    record { few = omega arith; long = d.long ∙ t.long; done = record { at = λ b h r y. more b h r y (dec_lt r i) } }
+-- block i broadcast to s, and s stored: j is 16 * i + 16 - 16 * i
+pub loaded_more : (w : Width) (i j : ℕ) {m : ℕ} {key l₀ l l' s : List ℕ} → j ≡ 16 → i < m → 8 * i + 8 ≤ length l → length l' ≡ length l → length s ≡ 8
+    → ((b : ℕ) → b < slots w → slot w s b ≡ take j (drop (16 * i) key)) → l' ≡ put l (8 * i) s → LoadedSo w m i key l₀ l
+    → LoadedSo w m (i + 1) key l₀ l'
+loaded_more w i j {key = key} {l₀} {l} {l'} ej less fits long eight each kept t =
+    record { few = omega arith; long = long ∙ t.long; done = record { at = λ b h r y. more b h r y (dec_lt r i) } }
   where
-    d : Changed w (λ b x. sixteen key i) (8 * i) l (take (8 * i) l ++ (ws ++ drop k (drop (8 * i) l)))
-    d = lent w (8 * i) k ek fits eight (record {
-      each = λ b h. ap (λ (x : List ℕ). slot w x b) kept ∙ each b h ∙ ap (λ (n : ℕ). take n (drop (16 * i) key)) ej;
-    })
+    d : Changed w (λ b x. sixteen key i) (8 * i) l l'
+    d = passed (8 * i) fits long eight refl (record { each = λ b h. each b h ∙ ap (λ (n : ℕ). take n (drop (16 * i) key)) ej }) kept
 
-    more : (b : ℕ) → b < slots w → (r : ℕ) → r < i + 1 → Dec (r < i)
-        → stored w (take (8 * i) l ++ (ws ++ drop k (drop (8 * i) l))) b r ≡ sixteen key r
+    more : (b : ℕ) → b < slots w → (r : ℕ) → r < i + 1 → Dec (r < i) → stored w l' b r ≡ sixteen key r
     more b h r y (yes z) = stored_before d b r (omega arith) ∙ t.done.at b h r z
     more b h r y (no z) =
         let e : i ≡ r = omega arith in
@@ -122,10 +119,9 @@ module _ {m from j : ℕ} (t : Begins m from j) where
     begins = two (λ (m : ℕ). from ≡ (j + 1) * m → from + m ≡ (j + 1 + 1) * m) (λ e. omega arith) (λ e. omega arith) m t.some t.few t.begins;
   }
 
-  -- there are ten constants, or seven, until the schedule ends
-  pub begins_constant : from < 4 * m + 7 → j < 10
-  begins_constant h =
-      two (λ (m : ℕ). from ≡ (j + 1) * m → from < 4 * m + 7 → j < 10) (λ e h. omega arith) (λ e h. omega arith) m t.some t.few t.begins h
+  -- after ten constants, or seven, the schedule ends
+  pub begins_over : 10 ≤ j → 4 * m + 7 ≤ from
+  begins_over h = two (λ (m : ℕ). from ≡ (j + 1) * m → 4 * m + 7 ≤ from) (λ e. omega arith) (λ e. omega arith) m t.some t.few t.begins
 
 -- the first of them
 pub begins_first : {m : ℕ} → 1 ≤ m → m ≤ 2 → Begins m m 0
@@ -184,7 +180,6 @@ grown_end {p = p} {q = q} h = record { long = refl; grows = record { more = λ k
 -- before the steps of a round constant, and before step p of them
 pub record AtConstant (w : Width) (m from j : ℕ) (l₀ l : List ℕ) : Type 0 where
   pub begins : Begins m from j
-  pub bound : from ≤ 16
   pub grown : Grown w (4 * m) m from l₀ l
 
 pub record AtStep (w : Width) (m from p : ℕ) (l₀ l : List ℕ) : Type 0 where

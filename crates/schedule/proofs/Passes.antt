@@ -1,15 +1,15 @@
 -- One step of the key expansion, once over the width: passes follow each other, and the copy, the pass and the columns are one write of the
 -- next round key. Assumes nothing.
-use mathlib.Core.Path.{◌≡◌, refl, ap, ap₂, ◌∙◌}
-use mathlib.Core.List.{List, ◌++◌}
+use mathlib.Core.Path.{◌≡◌, sym, ap, ap₂, ◌∙◌, subst}
+use mathlib.Core.List.{List}
 use Prim.Native.Nat.{ℕ, ◌+◌, ◌-◌, ◌*◌, ◌≤◌, ◌<◌}
 use native.Mathlib.Omega.{arith}
-use lib.ListN.{take, drop, length}
+use lib.ListN.{length}
 use Rattle.fips197.specs.Aes.{sub_bytes}
 use Rattle.lanes.specs.Layout.{Width, slots, slot}
-use Rattle.lanes.specs.Schedule.{add63, rows_unshifted, words_at, stored}
+use Rattle.lanes.specs.Schedule.{add63, words_at, stored}
 use Rattle.lanes.specs.Leaves.{Does, all, bare_sub_bytes, add_constant, key_columns, put, Changes, next_key_of}
-use Rattle.lanes.proofs.Parts.{words_length, put_is, put_length, at_put, before_put, after_put, put_put, given_back}
+use Rattle.lanes.proofs.Parts.{words_length, at_put, before_put, after_put, put_put, changed}
 use Rattle.lanes.proofs.Rows.{add63_twice}
 use Rattle.schedule.specs.Steps.{key_pass, next_of, Follows}
 
@@ -23,25 +23,16 @@ pass_is {w} c {s} sub nots constant = record {
       ∙ ap (add_constant c) (nots.each b h ∙ ap add63 (sub.each b h) ∙ add63_twice (sub_bytes (slot w s b)));
 }
 
--- no inverse row shift changes nothing
-pub times_none : {w : Width} {s : List ℕ} → Does w (all (rows_unshifted 0)) s s
-unfolding rows_unshifted
-times_none = record { each = λ b h. refl }
-
 -- ---- eight words at an offset of a schedule changed, by round keys
 pub record Changed (w : Width) (f : ℕ → List ℕ → List ℕ) (at : ℕ) (l m : List ℕ) : Type 0 where
   pub fits : at + 8 ≤ length l
   pub long : length m ≡ length l
   pub change : Changes w f at l m
 
--- a part lent, changed and given back, k being at + 8 - at
-pub lent : (w : Width) {f : ℕ → List ℕ → List ℕ} {l ws : List ℕ} (at k : ℕ) → k ≡ 8 → at + 8 ≤ length l → length ws ≡ 8
-    → Does w f (take k (drop at l)) ws → Changed w f at l (take at l ++ (ws ++ drop k (drop at l)))
-lent w {l = l} {ws = ws} at k e h g d = record {
-  fits = h;
-  long = ap length (put_is l at k ws e) ∙ put_length l at ws h g;
-  change = given_back w at k e h g refl refl d;
-}
+-- loaded, worked on and stored
+pub passed : {w : Width} {f : ℕ → List ℕ → List ℕ} {l m x y : List ℕ} (at : ℕ) → at + 8 ≤ length l → length m ≡ length l → length y ≡ 8
+    → x ≡ words_at l at → Does w f x y → m ≡ put l at y → Changed w f at l m
+passed {w} {f} {l} at h long eight e d p = record { fits = h; long = long; change = subst (Changes w f at l) (sym p) (changed w at h eight e d) }
 
 module _ {w : Width} {f : ℕ → List ℕ → List ℕ} {at : ℕ} {l m : List ℕ} (d : Changed w f at l m) where
   here_length : length (words_at m at) ≡ 8
@@ -108,19 +99,14 @@ module _ (w : Width) (n m r : ℕ) {f : List ℕ → List ℕ} {l a b c : List �
           ∙ ap (λ (x : List ℕ). words_at x (8 * (r - m))) copy
           ∙ before_put l (8 * r) (words_at l (8 * (r - 1))) fits eight (8 * (r - m)) (omega arith)
 
--- the same in the shape of the calls: off is where the round key before stands, back how far the one to add, k is 8 * r + 8 - 8 * r
-pub next_is : (w : Width) (n m r off back k : ℕ) {f : List ℕ → List ℕ} {l a ws c : List ℕ} → Follows m r (length l)
-    → off + 8 ≡ 8 * r → back ≡ 8 * m → k ≡ 8 → length a ≡ length l → length ws ≡ 8
-    → length c ≡ length (take (8 * r) a ++ (ws ++ drop k (drop (8 * r) a)))
-    → a ≡ put l (off + 8) (words_at l off)
-    → Does w (all f) (take k (drop (8 * r) a)) ws
-    → Changes w (next_key_of w n (words_at (take (8 * r) a ++ (ws ++ drop k (drop (8 * r) a))) (8 * r - back))) (8 * r)
-    (take (8 * r) a ++ (ws ++ drop k (drop (8 * r) a))) c
-    → Changes w (next_of w n f l r m) (8 * r) l c
-next_is w n m r off back k {l = l} {a = a} {ws = ws} follows eo eb ek la eight lc copy pass columns =
-    let h : 8 * r + 8 ≤ length a = omega arith in
-    let passed = lent w (8 * r) k ek h eight pass in
+-- the same in the shape of the calls: off is where the round key before stands, back how far the one to add
+pub next_is : (w : Width) (n m r off back : ℕ) {f : List ℕ → List ℕ} {l a x y b c : List ℕ} → Follows m r (length l) → off + 8 ≡ 8 * r → back ≡ 8 * m
+    → length a ≡ length l → length b ≡ length a → length c ≡ length b → length y ≡ 8
+    → a ≡ put l (off + 8) (words_at l off) → x ≡ words_at a (8 * r) → Does w (all f) x y → b ≡ put a (8 * r) y
+    → Changes w (next_key_of w n (words_at b (8 * r - back))) (8 * r) b c → Changes w (next_of w n f l r m) (8 * r) l c
+next_is w n m r off back {l = l} {a = a} follows eo eb la lb lc eight copy loaded pass kept columns =
+    let h : 8 * r + 8 ≤ length a = omega (arith, follows.room) in
     let e₁ : off ≡ 8 * (r - 1) = omega arith in
     let e₂ : 8 * r - back ≡ 8 * (r - m) = omega arith in
-    next_passes w n m r follows la (rw (eo, e₁) at copy) passed
-    (record { fits = omega (arith, passed.long); long = lc; change = rw e₂ at columns })
+    next_passes w n m r follows la (rw (eo, e₁) at copy) (passed (8 * r) h lb eight loaded pass kept)
+    (record { fits = omega (arith, follows.room); long = lc; change = rw e₂ at columns })

@@ -1,0 +1,61 @@
+// The two directions: what is done to one batch is all that differs between them.
+ghost use Rattle.std.specs.Prelude.{◌≡◌, ◌∷◌, ◌*◌, List, ℕ, map, length};
+ghost use Rattle.fips197.specs.Aes.{cipher, inv_cipher};
+ghost use Rattle.lanes.specs.Layout.{slots};
+ghost use Rattle.lanes.specs.Schedule.{crypted_batch};
+ghost use Rattle.cipher.proofs.Batches.{cipher_long, inv_cipher_long};
+
+use crate::schedule::Schedule;
+use sbox::{inv_sub_bytes, sub_bytes};
+use shift_rows::{inv_shift_rows, shift_rows};
+use word::packed::Packed;
+use word::{bitslice, inv_bitslice};
+
+pub trait Direction {
+    // What becomes of a block under its slot's round keys: FIPS-197's Cipher or InvCipher.
+    ghost crypt: { List (List ℕ) → List ℕ → List ℕ };
+
+    // A full batch.
+    fn batch<W: Packed>(schedule: Schedule<W>, input: &[u8], output: &mut [u8])
+        requires input { length input.now ≡ 16 * slots W.width }
+        requires output { length output.old ≡ 16 * slots W.width }
+        ensures { output.new ≡ crypted_batch crypt W.width schedule.entry.rounds (map W.value schedule.entry.words.now) input.now };
+
+    // A block becomes a block.
+    ghost long: { (key : List ℕ) (keys : List (List ℕ)) (block : List ℕ) → length (crypt (key ∷ keys) block) ≡ 16 };
+}
+
+pub struct Encrypt;
+
+impl Direction for Encrypt {
+    ghost crypt = { cipher };
+
+    fn batch<W: Packed>(schedule: Schedule<W>, input: &[u8], output: &mut [u8]) {
+        let n = schedule.rounds;
+        let s0 = schedule.add_key(bitslice(input), 0);
+        let s1 = schedule.do_rounds(s0);
+        // What the rounds left out: n row shifts, n being even.
+        let s2 = if n % 4 == 2 { shift_rows::<W, 2>(s1) } else { s1 };
+        let s3 = schedule.add_key(sub_bytes(s2), n);
+        inv_bitslice(s3, output);
+    }
+
+    ghost long = { cipher_long };
+}
+
+pub struct Decrypt;
+
+impl Direction for Decrypt {
+    ghost crypt = { inv_cipher };
+
+    // The mirror of encryption.
+    fn batch<W: Packed>(schedule: Schedule<W>, input: &[u8], output: &mut [u8]) {
+        let n = schedule.rounds;
+        let s0 = inv_sub_bytes(schedule.add_key(bitslice(input), n));
+        let s1 = schedule.undo_rounds(inv_shift_rows(s0, n % 4));
+        let s2 = schedule.add_key(s1, 0);
+        inv_bitslice(s2, output);
+    }
+
+    ghost long = { inv_cipher_long };
+}
