@@ -29,13 +29,13 @@ fn zeros() -> [u8; 64] {
 }
 
 // At most a batch, in a batch that is lent: the slots that are left hold zeros, and what becomes of these is dropped.
-fn crypt_in<D: Direction, W: Packed>(schedule: Schedule<W>, input: &[u8], output: &mut [u8], batch: &mut [u8], out: &mut [u8])
+fn crypt_in<D: Direction, W: Packed>(schedule: &Schedule<W>, input: &[u8], output: &mut [u8], batch: &mut [u8], out: &mut [u8])
     requires whole { length input.now % 16 ≡ 0 }
     requires most { length input.now ≤ 16 * slots W.width }
     requires output { length output.old ≡ length input.now }
     requires batch { length batch.old ≡ 16 * slots W.width }
     requires out { length out.old ≡ 16 * slots W.width }
-    ensures { output.new ≡ crypted D.crypt W.width schedule.entry.rounds (map W.value schedule.entry.words.now) input.now }
+    ensures { output.new ≡ crypted D.crypt W.width schedule.now.rounds (map W.value schedule.now.words.now) input.now }
 {
     copy_blocks(input, &mut batch[0..input.len()]);
     crypt_batches::<D, W>(schedule, batch, out);
@@ -43,11 +43,11 @@ fn crypt_in<D: Direction, W: Packed>(schedule: Schedule<W>, input: &[u8], output
 }
 
 // At most a batch, in one of its own.
-fn crypt_part<D: Direction, W: Packed>(schedule: Schedule<W>, input: &[u8], output: &mut [u8])
+fn crypt_part<D: Direction, W: Packed>(schedule: &Schedule<W>, input: &[u8], output: &mut [u8])
     requires whole { length input.now % 16 ≡ 0 }
     requires most { length input.now ≤ 16 * slots W.width }
     requires output { length output.old ≡ length input.now }
-    ensures { output.new ≡ crypted D.crypt W.width schedule.entry.rounds (map W.value schedule.entry.words.now) input.now }
+    ensures { output.new ≡ crypted D.crypt W.width schedule.now.rounds (map W.value schedule.now.words.now) input.now }
 {
     let mut batch = zeros();
     let mut out = zeros();
@@ -55,10 +55,10 @@ fn crypt_part<D: Direction, W: Packed>(schedule: Schedule<W>, input: &[u8], outp
 }
 
 // Any number of blocks: the full batches, and then the part of one that is left. (Less than one at once: docs/DECISIONS.md, 48.)
-pub fn crypt<D: Direction, W: Packed>(schedule: Schedule<W>, input: &[u8], output: &mut [u8])
+pub fn crypt<D: Direction, W: Packed>(schedule: &Schedule<W>, input: &[u8], output: &mut [u8])
     requires whole { length input.now % 16 ≡ 0 }
     requires output { length output.old ≡ length input.now }
-    ensures { output.new ≡ crypted D.crypt W.width schedule.entry.rounds (map W.value schedule.entry.words.now) input.now }
+    ensures { output.new ≡ crypted D.crypt W.width schedule.now.rounds (map W.value schedule.now.words.now) input.now }
 {
     let len = input.len();
     if len < W::BATCH {
@@ -74,10 +74,10 @@ pub fn crypt<D: Direction, W: Packed>(schedule: Schedule<W>, input: &[u8], outpu
 }
 
 // One block under the round keys of slot 0, in a batch that is lent, without the loops of a part.
-fn block_in<W: Packed>(schedule: Schedule<W>, block: [u8; 16], batch: &mut [u8], out: &mut [u8]) -> [u8; 16]
+fn block_in<W: Packed>(schedule: &Schedule<W>, block: [u8; 16], batch: &mut [u8], out: &mut [u8]) -> [u8; 16]
     requires batch { length batch.old ≡ 16 * slots W.width }
     requires out { length out.old ≡ 16 * slots W.width }
-    ensures { result ≡ cipher (reading W.width schedule.entry.rounds (map W.value schedule.entry.words.now) 0) block }
+    ensures { result ≡ cipher (reading W.width schedule.now.rounds (map W.value schedule.now.words.now) 0) block }
 {
     batch[0..16].copy_from_slice(&block);
     crypt_batches::<Encrypt, W>(schedule, batch, out);
@@ -85,8 +85,8 @@ fn block_in<W: Packed>(schedule: Schedule<W>, block: [u8; 16], batch: &mut [u8],
 }
 
 // One block under the round keys of slot 0, in a batch of its own.
-pub fn encrypt_block<W: Packed>(schedule: Schedule<W>, block: [u8; 16]) -> [u8; 16]
-    ensures { result ≡ cipher (reading W.width schedule.entry.rounds (map W.value schedule.entry.words.now) 0) block }
+pub fn encrypt_block<W: Packed>(schedule: &Schedule<W>, block: [u8; 16]) -> [u8; 16]
+    ensures { result ≡ cipher (reading W.width schedule.now.rounds (map W.value schedule.now.words.now) 0) block }
 {
     let mut batch = zeros();
     let mut out = zeros();

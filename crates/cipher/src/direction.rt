@@ -16,10 +16,10 @@ pub trait Direction {
     ghost crypt: { List (List ℕ) → List ℕ → List ℕ };
 
     // A full batch.
-    fn batch<W: Packed>(schedule: Schedule<W>, input: &[u8], output: &mut [u8])
+    fn batch<W: Packed>(schedule: &Schedule<W>, input: &[u8], output: &mut [u8])
         requires input { length input.now ≡ 16 * slots W.width }
         requires output { length output.old ≡ 16 * slots W.width }
-        ensures { output.new ≡ crypted_batch crypt W.width schedule.entry.rounds (map W.value schedule.entry.words.now) input.now };
+        ensures { output.new ≡ crypted_batch crypt W.width schedule.now.rounds (map W.value schedule.now.words.now) input.now };
 
     // A block becomes a block.
     ghost long: { (key : List ℕ) (keys : List (List ℕ)) (block : List ℕ) → length (crypt (key ∷ keys) block) ≡ 16 };
@@ -30,7 +30,7 @@ pub struct Encrypt;
 impl Direction for Encrypt {
     ghost crypt = { cipher };
 
-    fn batch<W: Packed>(schedule: Schedule<W>, input: &[u8], output: &mut [u8]) {
+    fn batch<W: Packed>(schedule: &Schedule<W>, input: &[u8], output: &mut [u8]) {
         let n = schedule.rounds;
         let s0 = schedule.add_key(bitslice(input), 0);
         let s1 = schedule.do_rounds(s0);
@@ -49,7 +49,7 @@ impl Direction for Decrypt {
     ghost crypt = { inv_cipher };
 
     // The mirror of encryption.
-    fn batch<W: Packed>(schedule: Schedule<W>, input: &[u8], output: &mut [u8]) {
+    fn batch<W: Packed>(schedule: &Schedule<W>, input: &[u8], output: &mut [u8]) {
         let n = schedule.rounds;
         let s0 = inv_sub_bytes(schedule.add_key(bitslice(input), n));
         let s1 = schedule.undo_rounds(inv_shift_rows(s0, n % 4));

@@ -13,10 +13,10 @@ use schedule::Schedule;
 use word::packed::Packed;
 
 // Full batches, one after the other: in a loop round the round loop clang inlines the S-box (docs/SPEED.md).
-pub fn crypt_batches<D: Direction, W: Packed>(schedule: Schedule<W>, input: &[u8], output: &mut [u8])
+pub fn crypt_batches<D: Direction, W: Packed>(schedule: &Schedule<W>, input: &[u8], output: &mut [u8])
     requires whole { length input.now % (16 * slots W.width) ≡ 0 }
     requires output { length output.old ≡ length input.now }
-    ensures { output.new ≡ crypted D.crypt W.width schedule.entry.rounds (map W.value schedule.entry.words.now) input.now }
+    ensures { output.new ≡ crypted D.crypt W.width schedule.now.rounds (map W.value schedule.now.words.now) input.now }
 {
     for i in 0..input.len() / W::BATCH {
         let at = W::BATCH * i;

@@ -10,7 +10,7 @@ use utils::load;
 use utils::word::Word;
 
 // The words, and the number of rounds that they are for.
-#[derive(Clone, Copy)]
+#[derive(Drop)]
 pub struct Schedule<'a, W: Word> {
     pub words: &'a [W],
     pub rounds: usize,
@@ -19,17 +19,17 @@ pub struct Schedule<'a, W: Word> {
 
 impl<'a, W: Word> Schedule<'a, W> {
     // XORs round key r, the eight words that start at offset 8r of the schedule, into the state.
-    pub(crate) fn add_key(self, state: [W; 8], r: usize) -> [W; 8]
-        requires { r ≤ self.rounds }
-        ensures { Does W.width (add_key_in W.width (map W.value self.entry.words.now) r) (map W.value state) (map W.value result) }
+    pub(crate) fn add_key(&self, state: [W; 8], r: usize) -> [W; 8]
+        requires { r ≤ self.now.rounds }
+        ensures { Does W.width (add_key_in W.width (map W.value self.now.words.now) r) (map W.value state) (map W.value result) }
     {
         add_round_key(state, load(self.words, 8 * r))
     }
 
     // Rounds 1 to n - 1, four forms to a turn: ShiftRows is left out, and form i of MixColumns accounts for i of them. The loop is left from its
     // middle, with the state before the key at offset 8n: after form 1 or, where n is a multiple of four, after form 3.
-    pub(crate) fn do_rounds(self, first: [W; 8]) -> [W; 8]
-        ensures { Does W.width (rounds_in W.width (map W.value self.entry.words.now) (self.entry.rounds - 1)) (map W.value first) (map W.value result) }
+    pub(crate) fn do_rounds(&self, first: [W; 8]) -> [W; 8]
+        ensures { Does W.width (rounds_in W.width (map W.value self.now.words.now) (self.now.rounds - 1)) (map W.value first) (map W.value result) }
     {
         let n = self.rounds;
         let mut state = first;
@@ -54,8 +54,8 @@ impl<'a, W: Word> Schedule<'a, W> {
     }
 
     // Rounds n - 1 to 1 undone, the forms in the opposite order. The loop is entered at form 1 or, where n is a multiple of four, at form 3.
-    pub(crate) fn undo_rounds(self, first: [W; 8]) -> [W; 8]
-        ensures { Does W.width (undone_in W.width (map W.value self.entry.words.now) (self.entry.rounds - 1)) (map W.value first) (map W.value result) }
+    pub(crate) fn undo_rounds(&self, first: [W; 8]) -> [W; 8]
+        ensures { Does W.width (undone_in W.width (map W.value self.now.words.now) (self.now.rounds - 1)) (map W.value first) (map W.value result) }
     {
         let mut state = first;
         let mut r: usize = self.rounds - 1;

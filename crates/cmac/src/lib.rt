@@ -46,17 +46,17 @@ pub fn xor(x: [u8; 16], y: [u8; 16]) -> [u8; 16]
 }
 
 // SUBK, 6.1, of the round keys of slot 0: twice the encryption of zeros, and twice that.
-pub fn subk<W: Packed>(schedule: Schedule<W>) -> Subkeys
-    ensures k1 { result.k1 ≡ subkey1 (cipher (reading W.width schedule.entry.rounds (map W.value schedule.entry.words.now) 0)) }
-    ensures k2 { result.k2 ≡ subkey2 (cipher (reading W.width schedule.entry.rounds (map W.value schedule.entry.words.now) 0)) }
+pub fn subk<W: Packed>(schedule: &Schedule<W>) -> Subkeys
+    ensures k1 { result.k1 ≡ subkey1 (cipher (reading W.width schedule.now.rounds (map W.value schedule.now.words.now) 0)) }
+    ensures k2 { result.k2 ≡ subkey2 (cipher (reading W.width schedule.now.rounds (map W.value schedule.now.words.now) 0)) }
 {
     let k1 = double(encrypt_block(schedule, [0u8; 16]));
     Subkeys { k1, k2: double(k1) }
 }
 
 // The tag of a message of one complete block, in full length.
-pub fn tag_of_block<W: Packed>(schedule: Schedule<W>, message: [u8; 16]) -> [u8; 16]
-    ensures { result ≡ cmac_of_block (cipher (reading W.width schedule.entry.rounds (map W.value schedule.entry.words.now) 0)) message }
+pub fn tag_of_block<W: Packed>(schedule: &Schedule<W>, message: [u8; 16]) -> [u8; 16]
+    ensures { result ≡ cmac_of_block (cipher (reading W.width schedule.now.rounds (map W.value schedule.now.words.now) 0)) message }
 {
     let subkeys = subk(schedule);
     let k1 = subkeys.k1;
