@@ -1,1 +1,1 @@
-mod Copy
+pub mod Stored

@@ -1,7 +1,51 @@
 // Between the bytes of two blocks and the words of 32 bits before the swaps: what is by the width in packing.
-ghost use Rattle.std.specs.Prelude.{◌≡◌, [], ◌∷◌, ◌+◌, ◌≤◌, length, get_or};
+ghost use Rattle.std.specs.Prelude.{◌≡◌, [], ◌∷◌, ◌+◌, ◌≤◌, length, get_or, map, refl, ◌%◌, ◌^◌};
 ghost use Rattle.lanes.specs.Layout.{w32, each_slot, join};
 ghost use Rattle.lanes.specs.Programs.{words, load_word, load_program, broadcast_program, block_bytes, store_program};
+
+use super::packed::Packed;
+
+impl Packed for u32 {
+    const BATCH: usize = 32;
+
+    ghost BATCH = { 32 };
+
+    // The columns are interleaved on input (note the order of input):
+    //     b0 c1 c0 __ __ __ __ __ => c1 c0 b0 __ __ __ __ __
+    fn load_blocks(input: &[u8]) -> [u32; 8] {
+        [
+            read_column(input, 0),
+            read_column(input, 16),
+            read_column(input, 4),
+            read_column(input, 20),
+            read_column(input, 8),
+            read_column(input, 24),
+            read_column(input, 12),
+            read_column(input, 28),
+        ]
+    }
+
+    // The same words where both blocks are one block.
+    fn load_repeated(block: &[u8]) -> [u32; 8] {
+        let c0 = read_column(block, 0);
+        let c1 = read_column(block, 4);
+        let c2 = read_column(block, 8);
+        let c3 = read_column(block, 12);
+        [c0, c0, c1, c1, c2, c2, c3, c3]
+    }
+
+    // The columns are de-interleaved on output (note the order of output):
+    //     c1 c0 b0 __ __ __ __ __ => b0 c1 c0 __ __ __ __ __
+    fn store_blocks(t: [u32; 8], output: &mut [u8])
+        requires { length output.old ≡ 32 }
+        ensures { output.new ≡ join (each_slot w32 (store_program (words w32) w32 (λ p. get_or (map (λ x. x % 2 ^ 32) t) p 0))) }
+    {
+        output[0..16].copy_from_slice(&block_bytes(t[0], t[2], t[4], t[6]));
+        output[16..32].copy_from_slice(&block_bytes(t[1], t[3], t[5], t[7]));
+    }
+
+    ghost batch_is = { refl };
+}
 
 // A column of a block, as u32::from_le_bytes has it.
 fn read_column(input: &[u8], at: usize) -> u32
@@ -12,36 +56,6 @@ fn read_column(input: &[u8], at: usize) -> u32
         | ((input[at + 1] as u32) << 8)
         | ((input[at + 2] as u32) << 16)
         | ((input[at + 3] as u32) << 24)
-}
-
-// The columns are interleaved on input (note the order of input):
-//     b0 c1 c0 __ __ __ __ __ => c1 c0 b0 __ __ __ __ __
-pub fn load_blocks(input: &[u8]) -> [u32; 8]
-    requires { length input.now ≡ 32 }
-    ensures { result ≡ load_program (words w32) w32 (λ i. get_or input.now i 0) }
-{
-    [
-        read_column(input, 0),
-        read_column(input, 16),
-        read_column(input, 4),
-        read_column(input, 20),
-        read_column(input, 8),
-        read_column(input, 24),
-        read_column(input, 12),
-        read_column(input, 28),
-    ]
-}
-
-// The same words where both blocks are one block.
-pub fn load_repeated(block: &[u8]) -> [u32; 8]
-    requires { length block.now ≡ 16 }
-    ensures { result ≡ broadcast_program (words w32) w32 (λ i. get_or block.now i 0) }
-{
-    let c0 = read_column(block, 0);
-    let c1 = read_column(block, 4);
-    let c2 = read_column(block, 8);
-    let c3 = read_column(block, 12);
-    [c0, c0, c1, c1, c2, c2, c3, c3]
 }
 
 // The bytes of a block from its four words, as u32::to_le_bytes has each.
@@ -66,14 +80,4 @@ fn block_bytes(c0: u32, c1: u32, c2: u32, c3: u32) -> [u8; 16]
         ((c3 >> 16) % 256) as u8,
         ((c3 >> 24) % 256) as u8,
     ]
-}
-
-// The columns are de-interleaved on output (note the order of output):
-//     c1 c0 b0 __ __ __ __ __ => b0 c1 c0 __ __ __ __ __
-pub fn store_blocks(t: [u32; 8], output: &mut [u8])
-    requires { length output.old ≡ 32 }
-    ensures { output.new ≡ join (each_slot w32 (store_program (words w32) w32 (λ p. get_or t p 0))) }
-{
-    super::copy16(block_bytes(t[0], t[2], t[4], t[6]), &mut output[0..16]);
-    super::copy16(block_bytes(t[1], t[3], t[5], t[7]), &mut output[16..32]);
 }

@@ -1,10 +1,11 @@
 // Between the bytes of four blocks and the words of 64 bits before the swaps: what is by the width in packing. Bytes are read and written in their
 // order, eight to a word; only words are swapped.
-ghost use Rattle.std.specs.Prelude.{◌≡◌, [], ◌∷◌, ◌+◌, ◌≤◌, length, get_or};
+ghost use Rattle.std.specs.Prelude.{◌≡◌, [], ◌∷◌, ◌+◌, ◌≤◌, length, get_or, map, refl, ◌%◌, ◌^◌};
 ghost use Rattle.lanes.specs.Layout.{w64, each_slot, join};
 ghost use Rattle.lanes.specs.Programs.{words, load_word, block_word, load_program, broadcast_program, le_bytes, block_bytes, store_program};
 
-use utils::w64::{Pair, delta_swap_2};
+use super::packed::Packed;
+use utils::delta_swap_2;
 
 // The lower of every two bytes, of every two pairs of bytes, and of the two halves of a word.
 const LOW_8: u64 = 0x00ff00ff00ff00ff;
@@ -12,6 +13,42 @@ const LOW_8: u64 = 0x00ff00ff00ff00ff;
 const LOW_16: u64 = 0x0000ffff0000ffff;
 
 const LOW_32: u64 = 0x00000000ffffffff;
+
+impl Packed for u64 {
+    const BATCH: usize = 64;
+
+    ghost BATCH = { 64 };
+
+    // Every block by itself, reordered by relabelling (note the order of the words):
+    //     b1 b0 c0 __ __ __ __ __ __ => c0 b1 b0 __ __ __ __ __ __
+    fn load_blocks(input: &[u8]) -> [u64; 8] {
+        let a = load_block(input, 0);
+        let b = load_block(input, 16);
+        let c = load_block(input, 32);
+        let d = load_block(input, 48);
+        [a.1, b.1, c.1, d.1, a.0, b.0, c.0, d.0]
+    }
+
+    // The same words where all four blocks are one block.
+    fn load_repeated(block: &[u8]) -> [u64; 8] {
+        let a = load_block(block, 0);
+        [a.1, a.1, a.1, a.1, a.0, a.0, a.0, a.0]
+    }
+
+    // Reordered by relabelling (note the order of the words):
+    //     c0 b1 b0 __ __ __ __ __ __ => b1 b0 c0 __ __ __ __ __ __
+    fn store_blocks(t: [u64; 8], output: &mut [u8])
+        requires { length output.old ≡ 64 }
+        ensures { output.new ≡ join (each_slot w64 (store_program (words w64) w64 (λ p. get_or (map (λ x. x % 2 ^ 64) t) p 0))) }
+    {
+        output[0..16].copy_from_slice(&block_bytes(t[0], t[4]));
+        output[16..32].copy_from_slice(&block_bytes(t[1], t[5]));
+        output[32..48].copy_from_slice(&block_bytes(t[2], t[6]));
+        output[48..64].copy_from_slice(&block_bytes(t[3], t[7]));
+    }
+
+    ghost batch_is = { refl };
+}
 
 // Half a block, as u64::from_le_bytes has it.
 fn read_half(input: &[u8], at: usize) -> u64
@@ -34,7 +71,7 @@ fn read_half(input: &[u8], at: usize) -> u64
 //     6 <-> 3:  __ __ c1 c0 r1 r0 __ __ __ => __ __ r0 c0 r1 c1 __ __ __
 //     6 <-> 4:  __ __ r0 c0 r1 c1 __ __ __ => __ __ r1 c0 r0 c1 __ __ __
 //     6 <-> 5:  __ __ r1 c0 r0 c1 __ __ __ => __ __ c0 r1 r0 c1 __ __ __
-fn load_block(input: &[u8], at: usize) -> Pair
+fn load_block(input: &[u8], at: usize) -> (u64, u64)
     requires { at + 16 ≤ length input.now }
     ensures { (result.0 ≡ block_word (words w64) w64 (λ i. get_or input.now i 0) at 1)
         × (result.1 ≡ block_word (words w64) w64 (λ i. get_or input.now i 0) at 0) }
@@ -42,28 +79,6 @@ fn load_block(input: &[u8], at: usize) -> Pair
     let a = delta_swap_2(read_half(input, at + 8), read_half(input, at), 8, LOW_8);
     let b = delta_swap_2(a.0, a.1, 16, LOW_16);
     delta_swap_2(b.0, b.1, 32, LOW_32)
-}
-
-// Every block by itself, reordered by relabelling (note the order of the words):
-//     b1 b0 c0 __ __ __ __ __ __ => c0 b1 b0 __ __ __ __ __ __
-pub fn load_blocks(input: &[u8]) -> [u64; 8]
-    requires { length input.now ≡ 64 }
-    ensures { result ≡ load_program (words w64) w64 (λ i. get_or input.now i 0) }
-{
-    let a = load_block(input, 0);
-    let b = load_block(input, 16);
-    let c = load_block(input, 32);
-    let d = load_block(input, 48);
-    [a.1, b.1, c.1, d.1, a.0, b.0, c.0, d.0]
-}
-
-// The same words where all four blocks are one block.
-pub fn load_repeated(block: &[u8]) -> [u64; 8]
-    requires { length block.now ≡ 16 }
-    ensures { result ≡ broadcast_program (words w64) w64 (λ i. get_or block.now i 0) }
-{
-    let a = load_block(block, 0);
-    [a.1, a.1, a.1, a.1, a.0, a.0, a.0, a.0]
 }
 
 // The bytes of both halves, as u64::to_le_bytes has each.
@@ -99,16 +114,4 @@ fn block_bytes(lo: u64, hi: u64) -> [u8; 16]
     let b = delta_swap_2(a.0, a.1, 16, LOW_16);
     let c = delta_swap_2(b.0, b.1, 8, LOW_8);
     halves_bytes(c.1, c.0)
-}
-
-// Reordered by relabelling (note the order of the words):
-//     c0 b1 b0 __ __ __ __ __ __ => b1 b0 c0 __ __ __ __ __ __
-pub fn store_blocks(t: [u64; 8], output: &mut [u8])
-    requires { length output.old ≡ 64 }
-    ensures { output.new ≡ join (each_slot w64 (store_program (words w64) w64 (λ p. get_or t p 0))) }
-{
-    super::copy16(block_bytes(t[0], t[4]), &mut output[0..16]);
-    super::copy16(block_bytes(t[1], t[5]), &mut output[16..32]);
-    super::copy16(block_bytes(t[2], t[6]), &mut output[32..48]);
-    super::copy16(block_bytes(t[3], t[7]), &mut output[48..64]);
 }

@@ -1,12 +1,10 @@
 -- By the law of packing one block into every slot.
-use Rattle.lanes.specs.Layout.{w32 as w}
-use Rattle.word.proofs.w32.broadcast.Goals as goal
--- ---- the same at both widths
 use borrow.Author.Rules.{rules}
 use Rattle.lanes.proofs.Machine.{byte_fit}
 use Rattle.lanes.proofs.Packing.{broadcasts}
+use Rattle.word.proofs.broadcast.Goals as goal
 
 pub returns : goal.returns
-returns c =
+returns g c =
     let fit = byte_fit c.args.block.now (search rules) in
-    broadcasts w fit c.requires c.load_repeated.ensures c.bitslice_swaps.ensures
+    broadcasts g.W.Word.width fit c.requires c.load_repeated.ensures c.bitslice_swaps.ensures
