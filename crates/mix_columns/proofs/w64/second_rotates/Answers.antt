@@ -1,7 +1,0 @@
--- Eight words, each by its call.
-use Rattle.mix_columns.proofs.w64.second_rotates.Goals as goal
--- ---- the same at both widths
-use Rattle.lanes.proofs.Parts.{◌∷≡◌}
-
-pub returns : goal.returns
-returns c = search ◌∷≡◌ depth 12
