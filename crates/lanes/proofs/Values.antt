@@ -1,4 +1,4 @@
--- Words of any type by what each is as a number: they fit, and a machine's words are those numbers. Assumes nothing.
+-- Words of any type by what each is as a number: they fit, what is made of them by their places, and a machine's words are those numbers. Assumes nothing.
 use mathlib.Core.Path.{◌≡◌, refl, sym, ◌∙◌, ap, ap₂}
 use mathlib.Core.List.{List, [], ◌∷◌, map}
 use Prim.Native.Nat.{ℕ, ◌%◌, ◌^◌, ◌<◌}
