@@ -68,7 +68,8 @@ fn xor_states<W: Word>(prev: [W; 8], cur: [W; 8], rows: u32) -> [W; 8]
 pub fn xor_columns<W: Word>(rkeys: &mut [W], off: usize, idx_xor: usize, rows: u32)
     requires { (8 ≤ idx_xor) × (idx_xor ≤ off) × (off + 8 ≤ length rkeys.old) × (rows < 2) }
     ensures long { length rkeys.new ≡ length rkeys.old }
-    ensures changed { Changes W.width (next_key_of W.width rows (words_at (map W.value rkeys.old) (off - idx_xor))) off (map W.value rkeys.old) (map W.value rkeys.new) }
+    ensures changed { Changes W.width (next_key_of W.width rows (words_at (map W.value rkeys.old) (off - idx_xor))) off
+        (map W.value rkeys.old) (map W.value rkeys.new) }
 {
     let p = load(rkeys, off - idx_xor);
     let s = load(rkeys, off);
