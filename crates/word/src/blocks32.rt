@@ -47,37 +47,23 @@ impl Packed for u32 {
     ghost batch_is = { refl };
 }
 
-// A column of a block, as u32::from_le_bytes has it.
+// A column of a block.
 fn read_column(input: &[u8], at: usize) -> u32
     requires { at + 4 ≤ length input.now }
     ensures { result ≡ load_word (words w32) w32 (λ i. get_or input.now i 0) at }
 {
-    (input[at] as u32)
-        | ((input[at + 1] as u32) << 8)
-        | ((input[at + 2] as u32) << 16)
-        | ((input[at + 3] as u32) << 24)
+    u32::from_le_bytes([input[at], input[at + 1], input[at + 2], input[at + 3]])
 }
 
-// The bytes of a block from its four words, as u32::to_le_bytes has each.
-fn block_bytes(c0: u32, c1: u32, c2: u32, c3: u32) -> [u8; 16]
-    ensures { result ≡ block_bytes (words w32) w32 (λ p. get_or (c0 ∷ c1 ∷ c2 ∷ c3 ∷ []) p 0) }
+// The bytes of a block from its four words.
+fn block_bytes(a: u32, b: u32, c: u32, d: u32) -> [u8; 16]
+    ensures { result ≡ block_bytes (words w32) w32 (λ p. get_or (a ∷ b ∷ c ∷ d ∷ []) p 0) }
 {
+    let [a0, a1, a2, a3] = a.to_le_bytes();
+    let [b0, b1, b2, b3] = b.to_le_bytes();
+    let [c0, c1, c2, c3] = c.to_le_bytes();
+    let [d0, d1, d2, d3] = d.to_le_bytes();
     [
-        (c0 % 256) as u8,
-        ((c0 >> 8) % 256) as u8,
-        ((c0 >> 16) % 256) as u8,
-        ((c0 >> 24) % 256) as u8,
-        (c1 % 256) as u8,
-        ((c1 >> 8) % 256) as u8,
-        ((c1 >> 16) % 256) as u8,
-        ((c1 >> 24) % 256) as u8,
-        (c2 % 256) as u8,
-        ((c2 >> 8) % 256) as u8,
-        ((c2 >> 16) % 256) as u8,
-        ((c2 >> 24) % 256) as u8,
-        (c3 % 256) as u8,
-        ((c3 >> 8) % 256) as u8,
-        ((c3 >> 16) % 256) as u8,
-        ((c3 >> 24) % 256) as u8,
+        a0, a1, a2, a3, b0, b1, b2, b3, c0, c1, c2, c3, d0, d1, d2, d3,
     ]
 }

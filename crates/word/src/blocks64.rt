@@ -50,19 +50,21 @@ impl Packed for u64 {
     ghost batch_is = { refl };
 }
 
-// Half a block, as u64::from_le_bytes has it.
+// Half a block.
 fn read_half(input: &[u8], at: usize) -> u64
     requires { at + 8 ≤ length input.now }
     ensures { result ≡ load_word (words w64) w64 (λ i. get_or input.now i 0) at }
 {
-    (input[at] as u64)
-        | ((input[at + 1] as u64) << 8)
-        | ((input[at + 2] as u64) << 16)
-        | ((input[at + 3] as u64) << 24)
-        | ((input[at + 4] as u64) << 32)
-        | ((input[at + 5] as u64) << 40)
-        | ((input[at + 6] as u64) << 48)
-        | ((input[at + 7] as u64) << 56)
+    u64::from_le_bytes([
+        input[at],
+        input[at + 1],
+        input[at + 2],
+        input[at + 3],
+        input[at + 4],
+        input[at + 5],
+        input[at + 6],
+        input[at + 7],
+    ])
 }
 
 // The two words of a block: the bytes of its halves in turns, 0 8 1 9 2 10 3 11 and 4 12 5 13 6 14 7 15, which the Rust reads reordered:
@@ -81,27 +83,14 @@ fn load_block(input: &[u8], at: usize) -> (u64, u64)
     delta_swap_2(b.0, b.1, 32, LOW_32)
 }
 
-// The bytes of both halves, as u64::to_le_bytes has each.
+// The bytes of both halves.
 fn halves_bytes(lo: u64, hi: u64) -> [u8; 16]
     ensures { result ≡ le_bytes (words w64) w64 (λ p. get_or (lo ∷ hi ∷ []) p 0) }
 {
+    let [a0, a1, a2, a3, a4, a5, a6, a7] = lo.to_le_bytes();
+    let [b0, b1, b2, b3, b4, b5, b6, b7] = hi.to_le_bytes();
     [
-        (lo % 256) as u8,
-        ((lo >> 8) % 256) as u8,
-        ((lo >> 16) % 256) as u8,
-        ((lo >> 24) % 256) as u8,
-        ((lo >> 32) % 256) as u8,
-        ((lo >> 40) % 256) as u8,
-        ((lo >> 48) % 256) as u8,
-        ((lo >> 56) % 256) as u8,
-        (hi % 256) as u8,
-        ((hi >> 8) % 256) as u8,
-        ((hi >> 16) % 256) as u8,
-        ((hi >> 24) % 256) as u8,
-        ((hi >> 32) % 256) as u8,
-        ((hi >> 40) % 256) as u8,
-        ((hi >> 48) % 256) as u8,
-        ((hi >> 56) % 256) as u8,
+        a0, a1, a2, a3, a4, a5, a6, a7, b0, b1, b2, b3, b4, b5, b6, b7,
     ]
 }
 

@@ -1,5 +1,4 @@
-// What packing asks of a word beyond the trait Word: a batch fills eight words, and between its bytes and the words before the swaps goes by
-// the width.
+// What packing asks of a word beyond the trait Word: how many bytes fill eight words, and the way between these bytes and the words before the swaps.
 ghost use Rattle.std.specs.Prelude.{◌≡◌, ℕ, ◌*◌, map, length, get_or};
 ghost use Rattle.lanes.specs.Layout.{slots, each_slot, join};
 ghost use Rattle.lanes.specs.Programs.{words, load_program, broadcast_program, store_program};
