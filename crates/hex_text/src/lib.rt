@@ -1,8 +1,7 @@
 // What the programs share: their input; the lines and fields of a text, its hex digits, and printing. No contract says more than its callers need.
 #![tactic(auto)]
 
-pub mod w32;
-pub mod w64;
+pub mod words;
 
 ghost use Rattle.std.specs.Prelude.{◌≤◌, ◌<◌, length, IfOk};
 

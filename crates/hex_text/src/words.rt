@@ -1,0 +1,67 @@
+// Words of a schedule or a state as hex digits, the same at both widths.
+ghost use Rattle.std.specs.Prelude.{◌<◌, ℕ};
+ghost use Rattle.std.proofs.Math.Dec.{lit<};
+
+use std::io;
+
+// A word by its digits, the first the highest.
+pub trait HexWord: Copy {
+    const DIGITS: usize;
+
+    ghost DIGITS: { ℕ };
+
+    // The low digits of a number.
+    fn from_number(number: u64) -> Self;
+
+    fn number(self) -> u64;
+
+    ghost some_digits: { 0 < DIGITS };
+}
+
+impl HexWord for u32 {
+    const DIGITS: usize = 8;
+
+    ghost DIGITS = { 8 };
+
+    fn from_number(number: u64) -> u32 {
+        (number % 0x1_0000_0000) as u32
+    }
+
+    fn number(self) -> u64 {
+        self as u64
+    }
+
+    ghost some_digits = { lit< tt };
+}
+
+impl HexWord for u64 {
+    const DIGITS: usize = 16;
+
+    ghost DIGITS = { 16 };
+
+    fn from_number(number: u64) -> u64 {
+        number
+    }
+
+    fn number(self) -> u64 {
+        self
+    }
+
+    ghost some_digits = { lit< tt };
+}
+
+// Words from their digits, with nothing between.
+pub fn read<W: HexWord>(digits: &[u8], words: &mut [W]) {
+    for (word, text) in words.iter_mut().zip(digits.chunks_exact(W::DIGITS)) {
+        *word = W::from_number(super::number(text));
+    }
+}
+
+// Prints words, eight a line.
+pub fn print<W: HexWord>(rt: &impl Print, words: &[W]) -> io::Result<()> {
+    for (i, word) in words.iter().enumerate() {
+        print!(rt; "{:01$x}", word.number(), W::DIGITS)?;
+        super::gap(rt, i)?;
+    }
+    Ok(())
+}
