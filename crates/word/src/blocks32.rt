@@ -40,8 +40,8 @@ impl Packed for u32 {
         requires { length output.old ≡ 32 }
         ensures { output.new ≡ join (each_slot w32 (store_program (words w32) w32 (λ p. get_or (map (λ x. x % 2 ^ 32) t) p 0))) }
     {
-        output[0..16].copy_from_slice(&block_bytes(t[0], t[2], t[4], t[6]));
-        output[16..32].copy_from_slice(&block_bytes(t[1], t[3], t[5], t[7]));
+        super::copy16(block_bytes(t[0], t[2], t[4], t[6]), &mut output[0..16]);
+        super::copy16(block_bytes(t[1], t[3], t[5], t[7]), &mut output[16..32]);
     }
 
     ghost batch_is = { refl };

@@ -41,10 +41,10 @@ impl Packed for u64 {
         requires { length output.old ≡ 64 }
         ensures { output.new ≡ join (each_slot w64 (store_program (words w64) w64 (λ p. get_or (map (λ x. x % 2 ^ 64) t) p 0))) }
     {
-        output[0..16].copy_from_slice(&block_bytes(t[0], t[4]));
-        output[16..32].copy_from_slice(&block_bytes(t[1], t[5]));
-        output[32..48].copy_from_slice(&block_bytes(t[2], t[6]));
-        output[48..64].copy_from_slice(&block_bytes(t[3], t[7]));
+        super::copy16(block_bytes(t[0], t[4]), &mut output[0..16]);
+        super::copy16(block_bytes(t[1], t[5]), &mut output[16..32]);
+        super::copy16(block_bytes(t[2], t[6]), &mut output[32..48]);
+        super::copy16(block_bytes(t[3], t[7]), &mut output[48..64]);
     }
 
     ghost batch_is = { refl };

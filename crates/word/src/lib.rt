@@ -95,3 +95,11 @@ pub fn inv_bitslice<W: Packed>(state: [W; 8], output: &mut [u8])
 {
     W::store_blocks(bitslice_swaps(state), output);
 }
+
+// The bytes of a block into a part of a buffer. (Of copy_from_slice a test would stay whether the two overlap.)
+pub fn copy16(from: [u8; 16], part: &mut [u8])
+    requires { length part.old ≡ 16 }
+    ensures { part.new ≡ from }
+{
+    *part.as_mut_array().unwrap() = from;
+}

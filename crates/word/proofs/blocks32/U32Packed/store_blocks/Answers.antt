@@ -14,6 +14,6 @@ returns c =
     let t : ℕ → ℕ = λ p. get_or c.args.t p 0 in
     stored_values w32 (array_fit w32 c.args.t _ c.well_formed.0.1.1)
     (two_parts (store_program (words w32) w32 t) (store_length w32 t) c.args.output.now c.requires
-    (c.copy_from_slice.ensures.after ∙ c.block_bytes.ensures)
-    (c.copy_from_slice-2.ensures.after ∙ c.block_bytes-2.ensures)
+    (c.copy16.ensures ∙ c.block_bytes.ensures)
+    (c.copy16-2.ensures ∙ c.block_bytes-2.ensures)
     _ refl)

@@ -14,8 +14,8 @@ returns c =
     let t : ℕ → ℕ = λ p. get_or c.args.t p 0 in
     stored_values w64 (array_fit w64 c.args.t _ c.well_formed.0.1.1)
     (four_parts (store_program (words w64) w64 t) (store_length w64 t) c.args.output.now c.requires
-    (c.copy_from_slice.ensures.after ∙ c.block_bytes.ensures)
-    (c.copy_from_slice-2.ensures.after ∙ c.block_bytes-2.ensures)
-    (c.copy_from_slice-3.ensures.after ∙ c.block_bytes-3.ensures)
-    (c.copy_from_slice-4.ensures.after ∙ c.block_bytes-4.ensures)
+    (c.copy16.ensures ∙ c.block_bytes.ensures)
+    (c.copy16-2.ensures ∙ c.block_bytes-2.ensures)
+    (c.copy16-3.ensures ∙ c.block_bytes-3.ensures)
+    (c.copy16-4.ensures ∙ c.block_bytes-4.ensures)
     _ _ _ refl refl refl)
