@@ -58,4 +58,6 @@ impl Word for u32 {
     ghost bits_is = { refl };
 
     ghost fits = { λ x. mod-lt x (lit< tt) };
+
+    ghost small = { lit< tt };
 }

@@ -62,6 +62,8 @@ impl Word for u64 {
     ghost bits_is = { refl };
 
     ghost fits = { λ x. mod-lt x (lit< tt) };
+
+    ghost small = { lit< tt };
 }
 
 // Bit i becomes bits 2i and 2i + 1: the bits are spread to the even places in three steps, and each is then doubled.
