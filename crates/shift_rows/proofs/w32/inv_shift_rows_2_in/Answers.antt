@@ -1,8 +1,0 @@
--- Loaded, worked on and stored: `in_place`.
-use Rattle.shift_rows.proofs.w32.inv_shift_rows_2_in.Goals as goal
--- ---- the same at both widths
-use Rattle.lanes.proofs.Parts.{in_place}
-
-pub returns : goal.returns
-returns c =
-    in_place c.load-s.ensures c.inv_shift_rows_2.ensures c.store.ensures
