@@ -1,4 +1,4 @@
--- The row shifts by their calls: two swaps that are the program's, the law of the words over every number, and what undoes them. Assumes nothing.
+-- The row shifts by their calls: the program's two swaps, the law of the words over every number, and what undoes them. Assumes nothing.
 use mathlib.Core.Path.{◌≡◌, refl, ◌∙◌}
 use mathlib.Core.List.{List, map}
 use Prim.Native.Nat.{ℕ, zero, suc, ◌*◌, ◌<◌}
@@ -15,16 +15,13 @@ use Rattle.lanes.proofs.Linear.{shift_words, shift_law, unshift_1, unshift_2, un
 use Rattle.lanes.proofs.Calls.{numbered}
 
 module _ (w : Width) where
-  -- a swap of halves, of masks m, and one of quarters
-  pub swaps : (x y z h q m o : ℕ) → y ≡ delta_swap1 (words w) w h m x → z ≡ delta_swap1 (words w) w q o y → (M : ℕ)
-      → h ≡ quarter_row w * 2 → m ≡ M → q ≡ quarter_row w → o ≡ pack_rows w 0 0x33 0 0x33
-      → z ≡ delta_swap1 (words w) w (quarter_row w) (pack_rows w 0 0x33 0 0x33) (delta_swap1 (words w) w (quarter_row w * 2) M x)
-  swaps x y z h q m o a b M c d e f = cc
+  -- a swap of halves and one of quarters, by the words between
+  pub swaps : (x y z h q m o : ℕ) → y ≡ delta_swap1 (words w) w h m x → z ≡ delta_swap1 (words w) w q o y
+      → h ≡ quarter_row w * 2 → q ≡ quarter_row w → o ≡ pack_rows w 0 0x33 0 0x33
+      → z ≡ delta_swap1 (words w) w (quarter_row w) (pack_rows w 0 0x33 0 0x33) (delta_swap1 (words w) w (quarter_row w * 2) m x)
+  swaps x y z h q m o a b c d e = cc
 
-  -- the program of a number that is known
-  pub shifted : (x y n k : ℕ) → n ≡ k → y ≡ shift_word (words w) w k x → y ≡ shift_word (words w) w n x
-  shifted x y n k e p = cc
-
+  -- the law of the words, for no shift too
   pub shift_does : {A : Type 0} (v : A → ℕ) (s : List A) → length s ≡ 8 → Fit (bits w) (map v s) → (n : ℕ) → n < 4 → {r : List ℕ}
       → r ≡ each8 (shift_word (words w) w n) (λ p. get_or (map v s) p 0) → Does w (all (rows_shifted n)) (map v s) r
   unfolding rows_shifted shift_words

@@ -1,35 +1,38 @@
 // The row shifts of the Rust's utils.rs, over any word.
 #![tactic(auto)]
 
-ghost use Rattle.std.specs.Prelude.{◌≡◌, ◌<◌, map};
+ghost use Rattle.std.specs.Prelude.{◌≡◌, ◌<◌, ◌*◌, map};
 ghost use Rattle.lanes.specs.Schedule.{rows_shifted, rows_unshifted};
 ghost use Rattle.lanes.specs.Leaves.{Does, all};
-ghost use Rattle.lanes.specs.Programs.{words, shift_word};
+ghost use Rattle.lanes.specs.Layout.{quarter_row};
+ghost use Rattle.lanes.specs.Masks.{pack_rows};
+ghost use Rattle.lanes.specs.Programs.{words, delta_swap1, shift_word};
 
 use utils::delta_swap_1;
 use utils::word::Word;
 
-// ShiftRows N times on one word, by swaps of halves of a row and then of quarters.
+// Swaps the halves of rows by a mask, and then the quarters of every half of the odd rows.
+fn swap_twice<W: Word>(x: W, mask: W) -> W
+    ensures { W.value result ≡ delta_swap1 (words W.width) W.width (quarter_row W.width) (pack_rows W.width 0 0x33 0 0x33)
+        (delta_swap1 (words W.width) W.width (quarter_row W.width * 2) (W.value mask) (W.value x)) }
+{
+    delta_swap_1(
+        delta_swap_1(x, W::BITS / 8, mask),
+        W::BITS / 16,
+        W::pack_rows(0x00, 0x33, 0x00, 0x33),
+    )
+}
+
+// ShiftRows N times on one word.
 fn shift_word<W: Word, const N: usize>(x: W) -> W
     requires { N < 4 }
     ensures { W.value result ≡ shift_word (words W.width) W.width N (W.value x) }
 {
-    let half = W::BITS / 8;
-    let quarter = W::BITS / 16;
-    let odd = W::pack_rows(0x00, 0x33, 0x00, 0x33);
     match N {
         0 => x,
-        1 => delta_swap_1(
-            delta_swap_1(x, half, W::pack_rows(0x00, 0x03, 0x0f, 0x0c)),
-            quarter,
-            odd,
-        ),
-        2 => delta_swap_1(x, half, W::pack_rows(0x00, 0x0f, 0x00, 0x0f)),
-        _ => delta_swap_1(
-            delta_swap_1(x, half, W::pack_rows(0x00, 0x0c, 0x0f, 0x03)),
-            quarter,
-            odd,
-        ),
+        1 => swap_twice(x, W::pack_rows(0x00, 0x03, 0x0f, 0x0c)),
+        2 => delta_swap_1(x, W::BITS / 8, W::pack_rows(0x00, 0x0f, 0x00, 0x0f)),
+        _ => swap_twice(x, W::pack_rows(0x00, 0x0c, 0x0f, 0x03)),
     }
 }
 
