@@ -26,10 +26,10 @@ pub loaded_none : {w : Width} {m : ℕ} {key l : List ℕ} → LoadedSo w m 0 ke
 loaded_none = record { few = omega arith; long = refl; done = record { at = λ b h r k. absurd (omega arith) } }
 
 -- block i broadcast to s, and s stored: j is 16 * i + 16 - 16 * i
-pub loaded_more : (w : Width) (i j : ℕ) {m : ℕ} {key l₀ l l' s : List ℕ} → j ≡ 16 → i < m → 8 * i + 8 ≤ length l → length l' ≡ length l → length s ≡ 8
+pub loaded_more : (w : Width) (i j : ℕ) {m : ℕ} {key l₀ l l' : List ℕ} (s : List ℕ) → j ≡ 16 → i < m → 8 * i + 8 ≤ length l → length l' ≡ length l → length s ≡ 8
     → ((b : ℕ) → b < slots w → slot w s b ≡ take j (drop (16 * i) key)) → l' ≡ put l (8 * i) s → LoadedSo w m i key l₀ l
     → LoadedSo w m (i + 1) key l₀ l'
-loaded_more w i j {key = key} {l₀} {l} {l'} ej less fits long eight each kept t =
+loaded_more w i j {key = key} {l₀} {l} {l'} s ej less fits long eight each kept t =
     record { few = omega arith; long = long ∙ t.long; done = record { at = λ b h r y. more b h r y (dec_lt r i) } }
   where
     d : Changed w (λ b x. sixteen key i) (8 * i) l l'
@@ -40,6 +40,10 @@ loaded_more w i j {key = key} {l₀} {l} {l'} ej less fits long eight each kept 
     more b h r y (no z) =
         let e : i ≡ r = omega arith in
         stored_here d b h r (ap (λ (n : ℕ). 8 * n) (sym e)) ∙ ap (sixteen key) e
+
+-- all of them
+pub loaded_all : {w : Width} {m i : ℕ} {key l₀ l : List ℕ} → m ≤ i → LoadedSo w m i key l₀ l → Loaded w m key l
+loaded_all {w} {m} {i} {key} {l = l} h t = let e : i ≡ m = omega (arith, t.few) in rw e at t.done
 
 -- they are the first round keys
 pub loaded_keys : (w : Width) (m : ℕ) {key l : List ℕ} → 1 ≤ m → length key ≡ 4 * (4 * m) → Loaded w m key l → Keys w (4 * m) m key l

@@ -1,10 +1,10 @@
 -- One step of the key expansion, once over the width: passes follow each other, and the copy, the pass and the columns are one write of the
 -- next round key. Assumes nothing.
 use mathlib.Core.Path.{◌≡◌, sym, ap, ap₂, ◌∙◌, subst}
-use mathlib.Core.List.{List}
+use mathlib.Core.List.{List, map}
 use Prim.Native.Nat.{ℕ, ◌+◌, ◌-◌, ◌*◌, ◌≤◌, ◌<◌}
 use native.Mathlib.Omega.{arith}
-use lib.ListN.{length}
+use lib.ListN.{length, length-map}
 use Rattle.fips197.specs.Aes.{sub_bytes}
 use Rattle.lanes.specs.Layout.{Width, slots, slot}
 use Rattle.lanes.specs.Schedule.{add63, words_at, stored}
@@ -55,6 +55,10 @@ module _ {w : Width} {f : ℕ → List ℕ → List ℕ} {at : ℕ} {l m : List 
   pub stored_here : (b : ℕ) → b < slots w → (r : ℕ) → 8 * r ≡ at → stored w m b r ≡ f b (stored w l b r)
   unfolding stored
   stored_here b h r e = rw e (d.change.here.each b h)
+
+-- the words by what each is as a number
+pub follows_map : {A : Type 0} {m r : ℕ} (v : A → ℕ) {l : List A} → Follows m r (length l) → Follows m r (length (map v l))
+follows_map v {l} f = record { some = f.some; old = f.old; room = omega (arith, f.room, length-map l v) }
 
 -- ---- a step: the words copied, passed over and added to the key m before them are one write of round key r
 module _ (w : Width) (n m r : ℕ) {f : List ℕ → List ℕ} {l a b c : List ℕ} (follows : Follows m r (length l)) (copied-long : length a ≡ length l) where
