@@ -55,11 +55,19 @@ pub fn load<W: Word>(rkeys: &[W], at: usize) -> [W; 8]
     *rkeys[at..at + 8].as_array().unwrap()
 }
 
+// One value into eight words: one store, where copy_from_slice would test for an overlap.
+fn store_eight<W: Word>(part: &mut [W], state: [W; 8])
+    requires { length part.old ≡ 8 }
+    ensures { part.new ≡ state }
+{
+    *part.as_mut_array().unwrap() = state;
+}
+
 // One value into the eight words at an offset of a schedule. Nothing else changes.
 pub fn store<W: Word>(rkeys: &mut [W], at: usize, state: [W; 8])
     requires { at + 8 ≤ length rkeys.old }
     ensures long { length rkeys.new ≡ length rkeys.old }
     ensures put { map W.value rkeys.new ≡ put (map W.value rkeys.old) at (map W.value state) }
 {
-    rkeys[at..at + 8].copy_from_slice(&state);
+    store_eight(&mut rkeys[at..at + 8], state);
 }
