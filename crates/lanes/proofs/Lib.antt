@@ -4,7 +4,6 @@ pub mod Linear
 pub mod Rows
 pub mod KeyRule
 pub mod Packing
-pub mod Circuits
 pub mod SubBytes
 pub mod Machine
 pub mod Values

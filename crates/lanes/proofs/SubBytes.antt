@@ -15,16 +15,9 @@ use Rattle.fips197.proofs.Blocks.{reads}
 use Rattle.lanes.specs.Layout.{Width, place, lane, slot}
 use Rattle.lanes.specs.Schedule.{add63}
 use Rattle.lanes.specs.Leaves.{Does, all, bare_sub_bytes, inv_bare_sub_bytes}
-use Rattle.lanes.specs.Programs.{Eight, on8}
-use Rattle.lanes.proofs.Circuits.{sub_program, inv_sub_program}
+use Rattle.lanes.specs.Programs.{on8}
+use Rattle.lanes.specs.Circuits.{Circuit, sub_program, inv_sub_program, on_words}
 use Rattle.lanes.proofs.Packing.{lane_lt}
-
--- a circuit, over any values with the two operations
-abbrev pub Circuit : Type 1
-Circuit = (A : Type 0) → (A → A → A) → (A → A → A) → Eight A (List A)
-
-abbrev pub on_words : Circuit → List ℕ → List ℕ
-on_words P ws = on8 (P ℕ (λ x y. bit_xor x y) (λ x y. bit_and x y)) (λ p. get_or ws p 0)
 
 -- sub_bytes and inv_sub_bytes on words
 unfoldable pub sub_words : List ℕ → List ℕ

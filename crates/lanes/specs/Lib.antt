@@ -4,3 +4,4 @@ pub mod Sizes
 pub mod Schedule
 pub mod Leaves
 pub mod Programs
+pub mod Circuits

@@ -4,8 +4,7 @@
 #![tactic(auto)]
 
 ghost use Rattle.std.specs.Prelude.{map, ◌≡◌};
-ghost use Rattle.lanes.proofs.Circuits.{sub_program, inv_sub_program};
-ghost use Rattle.lanes.proofs.SubBytes.{on_words};
+ghost use Rattle.lanes.specs.Circuits.{sub_program, inv_sub_program, on_words};
 ghost use Rattle.lanes.specs.Schedule.{add63};
 ghost use Rattle.lanes.specs.Leaves.{Does, all, bare_sub_bytes, inv_bare_sub_bytes};
 

@@ -1,6 +1,7 @@
--- The two S-box circuits (Boyar, Peralta and Calik), gate for gate as sbox.rs has them, over any words with XOR and AND. Assumes nothing.
-use mathlib.Core.List.{List, [], ◌∷◌}
-use Rattle.lanes.specs.Programs.{Eight}
+-- The two S-box circuits (Boyar, Peralta and Calik), gate for gate as sbox.rs has them, over any words with XOR and AND.
+use Rattle.std.specs.Prelude.{List, [], ◌∷◌, ℕ, get_or}
+use Rattle.std.specs.Int.Bits.{bit_xor, bit_and}
+use Rattle.lanes.specs.Programs.{Eight, on8}
 
 module _ {A : Type 0} (xor and : A → A → A) where
   abbrev pub sub_program : Eight A (List A)
@@ -250,3 +251,10 @@ module _ {A : Type 0} (xor and : A → A → A) where
       let p28 = xor p11 p25 in
       let s2 = xor p17 p28 in
       s7 ∷ s6 ∷ s5 ∷ s4 ∷ s3 ∷ s2 ∷ s1 ∷ s0 ∷ []
+
+-- a circuit, over any values with the two operations
+abbrev pub Circuit : Type 1
+Circuit = (A : Type 0) → (A → A → A) → (A → A → A) → Eight A (List A)
+
+abbrev pub on_words : Circuit → List ℕ → List ℕ
+on_words P ws = on8 (P ℕ (λ x y. bit_xor x y) (λ x y. bit_and x y)) (λ p. get_or ws p 0)
