@@ -2,7 +2,7 @@
 use borrow.Author.Rules.{rules}
 use Prim.Native.Nat.{◌-◌, ◌*◌, ◌/◌}
 use lib.ListN.{length, length-map}
-use mathlib.Core.Path.{◌≡◌, ◌∙◌}
+use mathlib.Core.Path.{◌≡◌, sym, ◌∙◌}
 use native.Mathlib.Omega.{arith}
 use Rattle.fips197.specs.Aes.{rounds_for}
 use Rattle.lanes.proofs.Machine.{byte_fit}
@@ -32,4 +32,20 @@ write_keys-requires g c =
     (omega arith, omega arith)
 
 pub returns : goal.returns
-returns g c = ?
+returns g c =
+    let v = g.W.Word.value in
+    let size = key_blocks _ _ c.requires in
+    let words = size.blocks.words in
+    let some = size.blocks.some in
+    let key = c.args.key.now in
+    let m = length key / 16 in
+    let long : length key ≡ 4 * (4 * m) = size.bytes ∙ omega arith in
+    let rounds : length c.args.rkeys.now / 8 - 1 ≡ rounds_for (4 * m) = omega arith in
+    let expanded = length-map c.expand_keys.new.rkeys v ∙ c.expand_keys.auto.rkeys ∙ c.load_key.auto.rkeys in
+    rw size.nk_is
+    (whole g.W.Word.width (4 * m) key (omega arith) long (byte_fit key (search rules))
+    rounds (expanded ∙ omega arith)
+    (c.expand_keys.ensures.more key long (loaded_keys g.W.Word.width m some long c.load_key.ensures))
+    c.write_keys.ensures
+    (length-map c.write_keys.new.rkeys v ∙ c.write_keys.auto.rkeys ∙ sym (length-map c.expand_keys.new.rkeys v))
+    (values_fit g.met.W.Word.fits c.write_keys.new.rkeys))

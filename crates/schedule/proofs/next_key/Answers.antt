@@ -16,7 +16,7 @@ returns g c =
     let off : 8 * a.r - 8 + 8 ≡ 8 * a.r = omega arith in
     let copied = length-map c.memshift32.new.rkeys v in
     let stored = length-map c.store.new.rkeys v in
-    next_is g.W.Word.width a.rows a.m a.r (8 * a.r - 8) (8 * a.m) (follows_map v c.requires.0) off refl
+    next_is g.W.Word.width a.rows a.m a.r (8 * a.r - 8) (8 * a.m) (follows_map v a.rkeys.now c.requires.0) off refl
     (copied ∙ c.memshift32.ensures.long ∙ sym (length-map a.rkeys.now v))
     (stored ∙ c.store.ensures.long ∙ sym copied)
     (length-map c.xor_columns.new.rkeys v ∙ c.xor_columns.ensures.long ∙ sym stored)

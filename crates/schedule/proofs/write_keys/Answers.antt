@@ -1,10 +1,9 @@
 -- The round keys passed so far are adjusted, the others as they were; the last has its NOTs only.
 use borrow.Author.Rules.{rules}
-use Prim.Native.Nat.{◌+◌, ◌*◌}
 use mathlib.Core.Path.{◌≡◌, refl, sym, ◌∙◌}
 use native.Mathlib.Omega.{arith}
 use lib.ListN.{length-map}
-use Rattle.schedule.proofs.Adjusting.{adjusted_none, adjusted_on, write_last, write_inner}
+use Rattle.schedule.proofs.Adjusting.{adjusted_on, write_last, write_inner}
 use Rattle.schedule.proofs.write_keys.Goals as goal
 
 pub loop-r-preserved : goal.loop-r-preserved
@@ -25,5 +24,5 @@ returns g c =
     let e : c.loop-r.r ≡ n = omega arith in
     let before = length-map c.loop-r.rkeys v in
     (adjusted_on g.W.Word.width _ n (omega arith) (omega (arith, before))
-    (length-map c.store.new.rkeys v ∙ c.store.ensures.long ∙ sym before) (length-map c.sub_bytes_nots.result v ∙ search rules)
-    c.load-last.ensures (write_last (search rules) refl c.sub_bytes_nots.ensures) c.store.ensures.put (rw e at c.loop-r.invariant.1)).done
+    (length-map c.store-2.new.rkeys v ∙ c.store-2.ensures.long ∙ sym before) (length-map c.sub_bytes_nots.result v ∙ search rules)
+    c.load-last.ensures (write_last (search rules) refl c.sub_bytes_nots.ensures) c.store-2.ensures.put (rw e at c.loop-r.invariant.1)).done
