@@ -1,13 +1,13 @@
 -- Blocks under any words as a schedule: each by the round keys of its own slot, so what holds of a block holds of all. Once over the width, the
 -- numbers of rounds and of blocks, and the direction. Assumes nothing.
-use mathlib.Core.Path.{◌≡◌, refl, sym, ap, ◌∙◌}
-use mathlib.Core.List.{List, [], ◌∷◌, map}
+use mathlib.Core.Path.{◌≡◌, sym, ap, ◌∙◌}
+use mathlib.Core.List.{List, ◌∷◌, map}
 use Prim.Native.Nat.{ℕ, suc, ◌+◌, ◌%◌, ◌<◌}
 use native.Mathlib.Omega.{arith}
 use lib.ListN.{length}
 use Rattle.fips197.specs.Bytes.{Block, Data}
-use Rattle.fips197.specs.Aes.{range, sixteen, sub_bytes, shift_rows, mix_columns, add_round_key, rounds, cipher, inv_cipher}
-use Rattle.fips197.proofs.Ciphers.{Blocks, cipher_block, inv_cipher_block, inv_cipher_cipher, cipher_inv_cipher}
+use Rattle.fips197.specs.Aes.{range, sixteen, cipher, inv_cipher}
+use Rattle.fips197.proofs.Ciphers.{cipher_long, inv_cipher_long, Blocks, cipher_block, inv_cipher_block, inv_cipher_cipher, cipher_inv_cipher}
 use Rattle.lanes.specs.Layout.{Width, slots}
 use Rattle.lanes.specs.Schedule.{read_key, reading, stored, crypted_blocks}
 use Rattle.lanes.proofs.Packing.{stored_block}
@@ -22,21 +22,6 @@ pub record Way : Type 0 where
   pub back_block : {ks : List (List ℕ)} {x : List ℕ} → Blocks ks → Block x → Block (back ks x)
   pub go_long : (k : List ℕ) (ks : List (List ℕ)) (x : List ℕ) → length (go (k ∷ ks) x) ≡ 16
   pub undone : {ks : List (List ℕ)} {x : List ℕ} → Blocks ks → Block x → back ks (go ks x) ≡ x
-
--- the rounds begin and end with sixteen bytes
-rounds_long : (ks : List (List ℕ)) (s : List ℕ) → length s ≡ 16 → length (rounds ks s) ≡ 16
-unfolding rounds add_round_key
-rounds_long [] s e = e
-rounds_long (k ∷ []) s e = refl
-rounds_long (k ∷ l ∷ ks) s e = rounds_long (l ∷ ks) (add_round_key (mix_columns (shift_rows (sub_bytes s))) k) refl
-
-pub cipher_long : (k : List ℕ) (ks : List (List ℕ)) (x : List ℕ) → length (cipher (k ∷ ks) x) ≡ 16
-unfolding cipher add_round_key
-cipher_long k ks x = rounds_long ks (add_round_key x k) refl
-
-pub inv_cipher_long : (k : List ℕ) (ks : List (List ℕ)) (x : List ℕ) → length (inv_cipher (k ∷ ks) x) ≡ 16
-unfolding inv_cipher add_round_key
-inv_cipher_long k ks x = refl
 
 abbrev pub forth : Way
 forth = record {

@@ -1,12 +1,12 @@
 -- The loop over the batches of a call: what is done is what the first batches become. Once over the width and what each slot does. Assumes nothing.
 use mathlib.Core.Path.{◌≡◌, refl, sym, ◌∙◌, ap, ap₂}
 use mathlib.Core.List.{List, ◌++◌, append_assoc}
-use Prim.Native.Nat.{ℕ, ◌+◌, ◌*◌, ◌≤◌}
+use Prim.Native.Nat.{ℕ, ◌+◌, ◌*◌, ◌/◌, ◌%◌, ◌<◌, ◌≤◌}
 use native.Mathlib.Nat.{mul-suc}
 use native.Mathlib.Omega.{arith}
 use lib.ListN.{take, drop, length, length-append, length-drop, take-append-drop}
 use lib.Seq.{take_at, take_all, length-take-le}
-use Rattle.lanes.specs.Layout.{Width, slots}
+use Rattle.lanes.specs.Layout.{Width, w32, w64, slots}
 use Rattle.lanes.specs.Schedule.{each_block, blocks_in}
 use Rattle.lanes.proofs.Cuts.{each_front, each_cut, blocks_are}
 
@@ -22,6 +22,30 @@ module _ (at k : ℕ) (o ws : List ℕ) (h : at + k ≤ length o) (e : length ws
   written n g =
       ap (take n) (sym (append_assoc (take at o) ws (drop k (drop at o))))
       ∙ take_at (take at o ++ ws) (drop k (drop at o)) n (length-append (take at o) ws ∙ omega (arith, front))
+
+-- ---- offsets in batches of so many bytes
+module _ (w : Width) {batch : ℕ} (e : batch ≡ 16 * slots w) where
+  pub offset : (i : ℕ) → batch * i ≡ 16 * (slots w * i)
+  offset i = rw e (by_width w)
+    where
+      by_width : (w : Width) → 16 * slots w * i ≡ 16 * (slots w * i)
+      by_width w32 = omega arith
+      by_width w64 = omega arith
+
+  pub fits : (i len : ℕ) → i < len / batch → batch * i + batch ≤ len
+  fits i len h = rw e (by_width w (rw e at h))
+    where
+      by_width : (w : Width) → i < len / (16 * slots w) → 16 * slots w * i + 16 * slots w ≤ len
+      by_width w32 h = omega arith
+      by_width w64 h = omega arith
+
+  -- at the end nothing is left
+  pub over : (i len : ℕ) → len % (16 * slots w) ≡ 0 → len / batch ≤ i → 16 * (slots w * i) ≤ len → len ≡ 16 * (slots w * i)
+  over i len z h k = by_width w z (rw e at h) k
+    where
+      by_width : (w : Width) → len % (16 * slots w) ≡ 0 → len / (16 * slots w) ≤ i → 16 * (slots w * i) ≤ len → len ≡ 16 * (slots w * i)
+      by_width w32 z h k = omega arith
+      by_width w64 z h k = omega arith
 
 -- ---- batches: i of them are done, of an output that was o₀
 pub record BatchesDone (w : Width) (f : ℕ → List ℕ → List ℕ) (input : List ℕ) (i : ℕ) (o₀ o : List ℕ) : Type 0 where

@@ -4,7 +4,6 @@ use mathlib.Core.Path.{◌≡◌, refl, sym, ◌∙◌, ap, ap₂, subst, subst�
 use mathlib.Core.List.{List}
 use Prim.Native.Nat.{ℕ, suc, ◌+◌, ◌-◌, ◌*◌, ◌%◌, ◌<◌, ◌≤◌}
 use native.Mathlib.Omega.{arith}
-use lib.ListN.{take, drop}
 use Rattle.fips197.specs.Aes.{cipher, inv_cipher}
 use Rattle.lanes.specs.Layout.{Width, slots, slot}
 use Rattle.lanes.specs.Schedule.{rows_shifted, rows_unshifted, words_at, stored, reading, crypted_batch, encrypted_batch, decrypted_batch}
@@ -15,10 +14,10 @@ use Rattle.cipher.specs.Fixslice.{fix_round, fix_unround, rounds_to, undone_from
 use Rattle.cipher.proofs.Arrangements.{encrypts, decrypts}
 
 -- ---- one round
--- round key r as it is lent, k being 8 * r + 8 - 8 * r
-pub key_lent : (w : Width) (l : List ℕ) (r k : ℕ) {s t : List ℕ} → k ≡ 8 → Does w (add_key_of w (take k (drop (8 * r) l))) s t → Does w (add_key_in w l r) s t
-unfolding stored words_at
-key_lent w l r k e d = rw e at d
+-- round key r, of words that are loaded
+pub key_loaded : (w : Width) (l : List ℕ) (r : ℕ) {k s t : List ℕ} → k ≡ words_at l (8 * r) → Does w (add_key_of w k) s t → Does w (add_key_in w l r) s t
+unfolding stored
+key_loaded w l r {k} {s} {t} e d = subst (λ (x : List ℕ). Does w (add_key_of w x) s t) e d
 
 -- no row shift, and none undone
 pub shifted_none : {w : Width} (n : ℕ) {s : List ℕ} → n ≡ 0 → Does w (all (rows_shifted n)) s s

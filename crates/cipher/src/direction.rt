@@ -1,9 +1,10 @@
 // The two directions: what is done to one batch is all that differs between them.
-ghost use Rattle.std.specs.Prelude.{◌≡◌, ◌∷◌, ◌*◌, List, ℕ, map, length};
+ghost use Rattle.std.specs.Prelude.{◌≡◌, ◌∷◌, ◌*◌, ◌%◌, List, ℕ, map, length};
 ghost use Rattle.fips197.specs.Aes.{cipher, inv_cipher};
 ghost use Rattle.lanes.specs.Layout.{slots};
-ghost use Rattle.lanes.specs.Schedule.{crypted_batch};
-ghost use Rattle.cipher.proofs.Batches.{cipher_long, inv_cipher_long};
+ghost use Rattle.lanes.specs.Schedule.{rows_shifted, crypted_batch};
+ghost use Rattle.lanes.specs.Leaves.{Does, all};
+ghost use Rattle.fips197.proofs.Ciphers.{cipher_long, inv_cipher_long};
 
 use crate::schedule::Schedule;
 use sbox::{inv_sub_bytes, sub_bytes};
@@ -25,6 +26,18 @@ pub trait Direction {
     ghost long: { (key : List ℕ) (keys : List (List ℕ)) (block : List ℕ) → length (crypt (key ∷ keys) block) ≡ 16 };
 }
 
+// ShiftRows n times, n being even: what the rounds left out.
+fn rows_left_out<W: Packed>(state: [W; 8], n: usize) -> [W; 8]
+    requires { n % 2 ≡ 0 }
+    ensures { Does W.width (all (rows_shifted (n % 4))) (map W.value state) (map W.value result) }
+{
+    if n % 4 == 2 {
+        shift_rows::<W, 2>(state)
+    } else {
+        state
+    }
+}
+
 pub struct Encrypt;
 
 impl Direction for Encrypt {
@@ -34,8 +47,7 @@ impl Direction for Encrypt {
         let n = schedule.rounds;
         let s0 = schedule.add_key(bitslice(input), 0);
         let s1 = schedule.do_rounds(s0);
-        // What the rounds left out: n row shifts, n being even.
-        let s2 = if n % 4 == 2 { shift_rows::<W, 2>(s1) } else { s1 };
+        let s2 = rows_left_out(s1, n);
         let s3 = schedule.add_key(sub_bytes(s2), n);
         inv_bitslice(s3, output);
     }

@@ -2,6 +2,7 @@
 use mathlib.Core.Path.{◌≡◌, refl, sym, ap, ◌∙◌}
 use mathlib.Core.List.{List, [], ◌∷◌}
 use Prim.Native.Nat.{ℕ}
+use lib.ListN.{length}
 use Rattle.fips197.specs.Bytes.{Block}
 use Rattle.fips197.specs.Aes.{sub_bytes, inv_sub_bytes, shift_rows, inv_shift_rows, mix_columns, inv_mix_columns, add_round_key, rounds, cipher}
 use Rattle.fips197.specs.Aes.{inv_rounds, inv_cipher}
@@ -35,6 +36,21 @@ pub inv_cipher_block : {ks : List (List ℕ)} {s : List ℕ} → Blocks ks → B
 unfolding inv_cipher
 inv_cipher_block none b = b
 inv_cipher_block (more k ks) b = add_block (inv_rounds_block ks b) k
+
+-- ---- under one round key or more, whatever goes in, sixteen bytes come out
+rounds_long : (ks : List (List ℕ)) (s : List ℕ) → length s ≡ 16 → length (rounds ks s) ≡ 16
+unfolding rounds add_round_key
+rounds_long [] s e = e
+rounds_long (k ∷ []) s e = refl
+rounds_long (k ∷ l ∷ ks) s e = rounds_long (l ∷ ks) (add_round_key (mix_columns (shift_rows (sub_bytes s))) k) refl
+
+pub cipher_long : (k : List ℕ) (ks : List (List ℕ)) (x : List ℕ) → length (cipher (k ∷ ks) x) ≡ 16
+unfolding cipher add_round_key
+cipher_long k ks x = rounds_long ks (add_round_key x k) refl
+
+pub inv_cipher_long : (k : List ℕ) (ks : List (List ℕ)) (x : List ℕ) → length (inv_cipher (k ∷ ks) x) ≡ 16
+unfolding inv_cipher add_round_key
+inv_cipher_long k ks x = refl
 
 -- ---- one round, and back
 module _ {s k : List ℕ} (b : Block s) (d : Block k) where
