@@ -12,7 +12,6 @@ use Rattle.lanes.specs.Layout.{Width, w32, w64, slots}
 use Rattle.lanes.specs.Schedule.{each_block, blocks_in}
 use Rattle.lanes.proofs.EachBlock.{some_slot}
 use Rattle.lanes.proofs.Cuts.{blocks_are, each_front, each_cut, each_take}
-use Rattle.cipher.specs.Fixslice.{Scheduled, Whole}
 use Rattle.cipher.proofs.Loop.{written, written_long}
 
 -- ---- copying: i blocks are done
@@ -55,15 +54,10 @@ module _ (w : Width) {p ws : List ℕ} (z : List ℕ) (k : ℕ) (all : k ≡ len
   pub front_length : length (take 0 z ++ (ws ++ drop k (drop 0 z))) ≡ 16 * slots w
   front_length = simp (length-append, length-drop) (omega (arith, ap length copied))
 
-  -- it is a full batch, with as much room for what it becomes
-  pub front_ready : {n s o : ℕ} → Scheduled n s → o ≡ 16 * slots w → Whole (16 * slots w) n s (length (take 0 z ++ (ws ++ drop k (drop 0 z)))) o
-  front_ready schedule room = record {
-    schedule = schedule;
-    whole = ap (λ (l : ℕ). l % (16 * slots w)) front_length ∙ one_batch w;
-    output = room ∙ sym front_length;
-  }
+  -- it is a full batch
+  pub front_whole : length (take 0 z ++ (ws ++ drop k (drop 0 z))) % (16 * slots w) ≡ 0
+  front_whole = ap (λ (l : ℕ). l % (16 * slots w)) front_length ∙ one_batch w
 
-  -- the first of what the batch becomes is what they become
   pub front_is : (f : ℕ → List ℕ → List ℕ) → ((b : ℕ) (x : List ℕ) → length (f b x) ≡ 16) → length p % 16 ≡ 0 → {out : List ℕ}
       → out ≡ each_block w f (blocks_in (take 0 z ++ (ws ++ drop k (drop 0 z)))) (take 0 z ++ (ws ++ drop k (drop 0 z)))
       → take k (drop 0 out) ≡ each_block w f (blocks_in p) p

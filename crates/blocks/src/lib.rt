@@ -10,6 +10,7 @@ ghost use Rattle.blocks.specs.Part.{Copied};
 use cipher::crypt_batches;
 use cipher::direction::{Direction, Encrypt};
 use cipher::schedule::Schedule;
+use word::copy16;
 use word::packed::Packed;
 
 // Copies whole blocks, and not byte by byte: of that clang makes a call of memcpy, which the library asks nobody for.
@@ -19,7 +20,7 @@ fn copy_blocks(from: &[u8], to: &mut [u8])
 {
     for i in 0..from.len() / 16 {
         let at = 16 * i;
-        to[at..at + 16].copy_from_slice(&from[at..at + 16]);
+        copy16(*from[at..at + 16].as_array().unwrap(), &mut to[at..at + 16]);
     }
 }
 
@@ -29,7 +30,13 @@ fn zeros() -> [u8; 64] {
 }
 
 // At most a batch, in a batch that is lent: the slots that are left hold zeros, and what becomes of these is dropped.
-fn crypt_in<D: Direction, W: Packed>(schedule: &Schedule<W>, input: &[u8], output: &mut [u8], batch: &mut [u8], out: &mut [u8])
+fn crypt_in<D: Direction, W: Packed>(
+    schedule: &Schedule<W>,
+    input: &[u8],
+    output: &mut [u8],
+    batch: &mut [u8],
+    out: &mut [u8],
+)
     requires whole { length input.now % 16 ≡ 0 }
     requires most { length input.now ≤ 16 * slots W.width }
     requires output { length output.old ≡ length input.now }
@@ -51,7 +58,13 @@ fn crypt_part<D: Direction, W: Packed>(schedule: &Schedule<W>, input: &[u8], out
 {
     let mut batch = zeros();
     let mut out = zeros();
-    crypt_in::<D, W>(schedule, input, output, &mut batch[0..W::BATCH], &mut out[0..W::BATCH]);
+    crypt_in::<D, W>(
+        schedule,
+        input,
+        output,
+        &mut batch[0..W::BATCH],
+        &mut out[0..W::BATCH],
+    );
 }
 
 // Any number of blocks: the full batches, and then the part of one that is left. (Less than one at once: docs/DECISIONS.md, 48.)
@@ -61,11 +74,12 @@ pub fn crypt<D: Direction, W: Packed>(schedule: &Schedule<W>, input: &[u8], outp
     ensures { output.new ≡ crypted D.crypt W.width schedule.now.rounds (map W.value schedule.now.words.now) input.now }
 {
     let len = input.len();
-    if len < W::BATCH {
+    let batch = W::BATCH;
+    if len < batch {
         crypt_part::<D, W>(schedule, input, output);
         return;
     }
-    let full = W::BATCH * (len / W::BATCH);
+    let full = batch * (len / batch);
     crypt_batches::<D, W>(schedule, &input[0..full], &mut output[0..full]);
     if full == len {
         return;
@@ -74,12 +88,17 @@ pub fn crypt<D: Direction, W: Packed>(schedule: &Schedule<W>, input: &[u8], outp
 }
 
 // One block under the round keys of slot 0, in a batch that is lent, without the loops of a part.
-fn block_in<W: Packed>(schedule: &Schedule<W>, block: [u8; 16], batch: &mut [u8], out: &mut [u8]) -> [u8; 16]
+fn block_in<W: Packed>(
+    schedule: &Schedule<W>,
+    block: [u8; 16],
+    batch: &mut [u8],
+    out: &mut [u8],
+) -> [u8; 16]
     requires batch { length batch.old ≡ 16 * slots W.width }
     requires out { length out.old ≡ 16 * slots W.width }
     ensures { result ≡ cipher (reading W.width schedule.now.rounds (map W.value schedule.now.words.now) 0) block }
 {
-    batch[0..16].copy_from_slice(&block);
+    copy16(block, &mut batch[0..16]);
     crypt_batches::<Encrypt, W>(schedule, batch, out);
     *out[0..16].as_array().unwrap()
 }
@@ -90,5 +109,10 @@ pub fn encrypt_block<W: Packed>(schedule: &Schedule<W>, block: [u8; 16]) -> [u8;
 {
     let mut batch = zeros();
     let mut out = zeros();
-    block_in(schedule, block, &mut batch[0..W::BATCH], &mut out[0..W::BATCH])
+    block_in(
+        schedule,
+        block,
+        &mut batch[0..W::BATCH],
+        &mut out[0..W::BATCH],
+    )
 }

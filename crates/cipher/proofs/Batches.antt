@@ -43,6 +43,14 @@ backwards = record {
   undone = cipher_inv_cipher;
 }
 
+-- a block under the round keys of a slot, which are one or more
+pub reading_long : (c : List (List ℕ) → List ℕ → List ℕ) → ((k : List ℕ) (ks : List (List ℕ)) (x : List ℕ) → length (c (k ∷ ks) x) ≡ 16)
+    → (w : Width) (n : ℕ) (l : List ℕ) (b : ℕ) (x : List ℕ) → length (c (reading w n l b) x) ≡ 16
+unfolding reading
+reading_long c long w n l b x =
+    let e : n + 1 ≡ suc n = omega arith in
+    rw e (long (read_key n 0 (stored w l b 0)) (map (λ r. read_key n r (stored w l b r)) (range 1 n)) x)
+
 -- ---- under n rounds of the words l
 module _ (v : Way) (w : Width) (n : ℕ) (l : List ℕ) where
   pub keys : (b : ℕ) → Blocks (reading w n l b)
@@ -57,10 +65,7 @@ module _ (v : Way) (w : Width) (n : ℕ) (l : List ℕ) where
 
   -- sixteen bytes become of any: there is a round key
   pub crypted_long : (b : ℕ) (x : List ℕ) → length (v.go (reading w n l b) x) ≡ 16
-  unfolding reading
-  crypted_long b x =
-      let e : n + 1 ≡ suc n = omega arith in
-      rw e (v.go_long (read_key n 0 (stored w l b 0)) (map (λ r. read_key n r (stored w l b r)) (range 1 n)) x)
+  crypted_long b x = reading_long v.go v.go_long w n l b x
 
   module _ {k : ℕ} {i : List ℕ} (d : Data k i) where
     -- block j by the round keys of slot j mod slots

@@ -39,6 +39,14 @@ module _ (w : Width) {batch : ℕ} (e : batch ≡ 16 * slots w) where
       by_width w32 h = omega arith
       by_width w64 h = omega arith
 
+  -- the full batches of so many bytes
+  pub under : (len : ℕ) → batch * (len / batch) ≤ len
+  under len = rw e (by_width w)
+    where
+      by_width : (w : Width) → 16 * slots w * (len / (16 * slots w)) ≤ len
+      by_width w32 = omega arith
+      by_width w64 = omega arith
+
   -- at the end nothing is left
   pub over : (i len : ℕ) → len % (16 * slots w) ≡ 0 → len / batch ≤ i → 16 * (slots w * i) ≤ len → len ≡ 16 * (slots w * i)
   over i len z h k = by_width w z (rw e at h) k

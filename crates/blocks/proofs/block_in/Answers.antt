@@ -1,28 +1,22 @@
 -- One block is at the front of a batch, in slot 0.
-use Rattle.lanes.specs.Layout.{w64 as w}
-use Rattle.blocks.proofs.w64.encrypt_block.Goals as goal
--- ---- the same at both widths
 use borrow.Author.Rules.{rules}
+use mathlib.Core.List.{map}
 use mathlib.Core.Path.{◌≡◌, sym, ◌∙◌}
 use native.Mathlib.Omega.{arith}
 use lib.ListN.{length}
-use Rattle.cipher.proofs.Batches.{forth, crypted_long}
-use Rattle.blocks.proofs.Parts.{front_length, front_ready, front_is, one_block}
-
-pub slice_bounds-encrypt_batches-end : goal.slice_bounds-encrypt_batches-end
-slice_bounds-encrypt_batches-end c =
-    let long : length c.args.block ≡ 16 = search rules in
-    sym (front_length w c.zeros-batch.result 16 (sym long) c.copy16.ensures (search rules) (omega (arith, long)))
-
-pub encrypt_batches-requires : goal.encrypt_batches-requires
-encrypt_batches-requires c =
-    let long : length c.args.block ≡ 16 = search rules in
-    front_ready w c.zeros-batch.result 16 (sym long) c.copy16.ensures (search rules) (omega (arith, long)) c.requires (search rules)
+use Rattle.fips197.specs.Aes.{cipher}
+use Rattle.fips197.proofs.Ciphers.{cipher_long}
+use Rattle.lanes.proofs.EachBlock.{some_slot}
+use Rattle.cipher.proofs.Batches.{reading_long}
+use Rattle.blocks.proofs.Parts.{front_is, one_block}
+use Rattle.blocks.proofs.block_in.Goals as goal
 
 pub returns : goal.returns
-returns c =
+returns g c =
+    let w = g.W.Word.width in
+    let l = c.args.schedule.now in
     let long : length c.args.block ≡ 16 = search rules in
-    c.load16.ensures
-    ∙ front_is w c.zeros-batch.result 16 (sym long) c.copy16.ensures (search rules) (omega (arith, long))
-    _ (crypted_long forth w c.args.n c.args.schedule.now) (omega (arith, long)) c.encrypt_batches.ensures
+    search rules
+    ∙ front_is w c.args.batch.now 16 (sym long) c.copy16.ensures c.requires.batch (omega (arith, long, some_slot w))
+    _ (reading_long cipher cipher_long w l.rounds (map g.W.Word.value l.words.now)) (omega (arith, long)) c.crypt_batches.ensures
     ∙ one_block w _ long
