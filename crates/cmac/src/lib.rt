@@ -17,20 +17,13 @@ pub struct Subkeys {
     pub k2: [u8; 16],
 }
 
-// A block doubled: shifted left by one bit, from the last byte on, and 87 hex XORed into the last byte where a bit falls out at the first. That bit becomes a
-// mask, so that there is no branch on it.
+// A block doubled: shifted left by one bit, and 87 hex XORed into the last byte where a bit falls out at the first. That bit is a factor, so that there is no
+// branch on it.
 pub fn double(block: [u8; 16]) -> [u8; 16]
     ensures { result ≡ doubled block }
 {
-    let mut shifted = block;
-    let mut carry = 0u8;
-    for i in 0..16 {
-        let at = 15 - i;
-        let byte = block[at];
-        shifted[at] = (byte << 1) | carry;
-        carry = byte >> 7;
-    }
-    shifted[15] ^= 0x87 & (255 * carry);
+    let mut shifted = (u128::from_be_bytes(block) << 1).to_be_bytes();
+    shifted[15] ^= 0x87 * (block[0] >> 7);
     shifted
 }
 
@@ -39,8 +32,8 @@ pub fn xor(x: [u8; 16], y: [u8; 16]) -> [u8; 16]
     ensures { result ≡ xors x y }
 {
     let mut sum = x;
-    for i in 0..16 {
-        sum[i] ^= y[i];
+    for (i, byte) in sum.iter_mut().enumerate() {
+        *byte ^= y[i];
     }
     sum
 }
