@@ -1,1 +1,2 @@
 pub mod KeySize
+pub mod Refusal

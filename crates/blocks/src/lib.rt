@@ -8,7 +8,7 @@ ghost use Rattle.lanes.specs.Schedule.{reading, crypted};
 ghost use Rattle.blocks.specs.Part.{Copied};
 
 use cipher::crypt_batches;
-use cipher::direction::{Direction, Encrypt};
+use cipher::direction::{Crypt, Encrypt};
 use cipher::schedule::Schedule;
 use word::copy16;
 use word::packed::Packed;
@@ -30,7 +30,7 @@ fn zeros() -> [u8; 64] {
 }
 
 // At most a batch, in a batch that is lent: the slots that are left hold zeros, and what becomes of these is dropped.
-fn crypt_in<D: Direction, W: Packed>(
+fn crypt_in<D: Crypt, W: Packed>(
     schedule: &Schedule<W>,
     input: &[u8],
     output: &mut [u8],
@@ -50,7 +50,7 @@ fn crypt_in<D: Direction, W: Packed>(
 }
 
 // At most a batch, in one of its own.
-fn crypt_part<D: Direction, W: Packed>(schedule: &Schedule<W>, input: &[u8], output: &mut [u8])
+fn crypt_part<D: Crypt, W: Packed>(schedule: &Schedule<W>, input: &[u8], output: &mut [u8])
     requires whole { length input.now % 16 ≡ 0 }
     requires most { length input.now ≤ 16 * slots W.width }
     requires output { length output.old ≡ length input.now }
@@ -68,7 +68,7 @@ fn crypt_part<D: Direction, W: Packed>(schedule: &Schedule<W>, input: &[u8], out
 }
 
 // Any number of blocks: the full batches, and then the part of one that is left. (Less than one at once: docs/DECISIONS.md, 48.)
-pub fn crypt<D: Direction, W: Packed>(schedule: &Schedule<W>, input: &[u8], output: &mut [u8])
+pub fn crypt<D: Crypt, W: Packed>(schedule: &Schedule<W>, input: &[u8], output: &mut [u8])
     requires whole { length input.now % 16 ≡ 0 }
     requires output { length output.old ≡ length input.now }
     ensures { output.new ≡ crypted D.crypt W.width schedule.now.rounds (map W.value schedule.now.words.now) input.now }

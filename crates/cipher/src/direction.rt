@@ -12,7 +12,7 @@ use shift_rows::{inv_shift_rows, shift_rows};
 use word::packed::Packed;
 use word::{bitslice, inv_bitslice};
 
-pub trait Direction {
+pub trait Crypt {
     // What becomes of a block under its slot's round keys: FIPS-197's Cipher or InvCipher.
     ghost crypt: { List (List ℕ) → List ℕ → List ℕ };
 
@@ -40,7 +40,7 @@ fn rows_left_out<W: Packed>(state: [W; 8], n: usize) -> [W; 8]
 
 pub struct Encrypt;
 
-impl Direction for Encrypt {
+impl Crypt for Encrypt {
     ghost crypt = { cipher };
 
     fn batch<W: Packed>(schedule: &Schedule<W>, input: &[u8], output: &mut [u8]) {
@@ -57,7 +57,7 @@ impl Direction for Encrypt {
 
 pub struct Decrypt;
 
-impl Direction for Decrypt {
+impl Crypt for Decrypt {
     ghost crypt = { inv_cipher };
 
     // The mirror of encryption.

@@ -8,12 +8,12 @@ ghost use Rattle.std.specs.Prelude.{◌≡◌, ◌*◌, ◌%◌, map, length};
 ghost use Rattle.lanes.specs.Layout.{slots};
 ghost use Rattle.lanes.specs.Schedule.{crypted};
 
-use direction::Direction;
+use direction::Crypt;
 use schedule::Schedule;
 use word::packed::Packed;
 
 // Full batches, one after the other: in a loop round the round loop clang inlines the S-box (docs/SPEED.md).
-pub fn crypt_batches<D: Direction, W: Packed>(
+pub fn crypt_batches<D: Crypt, W: Packed>(
     schedule: &Schedule<W>,
     input: &[u8],
     output: &mut [u8],

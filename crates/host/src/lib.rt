@@ -6,9 +6,14 @@ ghost use Rattle.std.specs.Prelude.{◌≡◌, ◌<◌, length, replicate};
 ghost use Rattle.lanes.specs.Layout.{w32, w64};
 ghost use Rattle.outcome.specs.Outcome.{answers};
 ghost use Rattle.calls.specs.Calls.{expand_outcome, encrypt_outcome, decrypt_outcome, check_outcome, door_outcome};
+ghost use Rattle.aes.specs.Refusal.{number, direction_number};
 ghost use Rattle.host.specs.Door.{Ready, under_key};
 
-use aes::{KeySize, key_size, whole_blocks, zero_key};
+use aes::refusal::{Direction, Refusal, number};
+use aes::{key_size, whole_blocks, zero_key};
+use cipher::direction::{Decrypt, Encrypt};
+use cipher::schedule::Schedule;
+use schedule::key_schedule;
 
 // Room for the longest schedule. A call, so that a goal says its result and not 120 zeros.
 fn blank() -> [u64; 120]
@@ -36,109 +41,113 @@ fn burn(n: usize, at: usize) -> u64
 
 // The door behind its tests: the schedule is made in the words lent here, and used.
 fn crypt_with(
-    direction: u32,
+    direction: Direction,
     key: &[u8],
     rounds: usize,
     schedule: &mut [u64],
     input: &[u8],
     output: &mut [u8],
 )
-    requires { Ready direction rounds key.now (length schedule.old) (length input.now) (length output.old) }
-    ensures { output.new ≡ under_key direction key.now input.now }
+    requires { Ready (direction_number direction) rounds key.now (length schedule.old) (length input.now) (length output.old) }
+    ensures { output.new ≡ under_key (direction_number direction) key.now input.now }
 {
-    schedule::w64::key_schedule(key, schedule);
-    if direction == 0 {
-        blocks::w64::encrypt(schedule, rounds, input, output);
-        return;
+    key_schedule(key, schedule);
+    let schedule = Schedule {
+        words: schedule,
+        rounds,
+    };
+    match direction {
+        Direction::Encrypt => blocks::crypt::<Encrypt, u64>(&schedule, input, output),
+        Direction::Decrypt => blocks::crypt::<Decrypt, u64>(&schedule, input, output),
     }
-    blocks::w64::decrypt(schedule, rounds, input, output);
 }
 
-// The door: a key, blocks and a direction, 0 to encrypt and 1 to decrypt. The schedule does not leave it, and is erased.
-pub fn locker_aes(direction: u32, key: &[u8], input: &[u8], output: &mut [u8]) -> u32
-    ensures { answers result output.new ≡ door_outcome direction key.now input.now output.old }
+// The door with its tests. The schedule does not leave it, and is erased.
+fn crypt(direction: u32, key: &[u8], input: &[u8], output: &mut [u8]) -> Result<(), Refusal>
+    ensures { answers (number result) output.new ≡ door_outcome direction key.now input.now output.old }
 {
-    let KeySize::Of(rounds, words) = key_size(key.len()) else {
-        return 1;
-    };
-    let zeros = zero_key(key);
-    if zeros {
-        return 6;
+    let size = key_size(key.len())?;
+    if zero_key(key) {
+        return Err(Refusal::ZeroKey);
     }
-    let whole = whole_blocks(input.len());
-    if !whole {
-        return 3;
+    if !whole_blocks(input.len()) {
+        return Err(Refusal::Input);
     }
     if output.len() != input.len() {
-        return 4;
+        return Err(Refusal::Output);
     }
-    if direction > 1 {
-        return 5;
-    }
+    let way = Direction::try_from(direction)?;
     let mut schedule = blank();
     crypt_with(
-        direction,
+        way,
         key,
-        rounds,
-        &mut schedule[0..words],
+        size.rounds,
+        &mut schedule[..size.words],
         input,
         output,
     );
     // The answers below are never given: the words are zero. To ask keeps the compiler from leaving the erasing out.
     schedule = blank();
     if schedule[direction as usize] != 0 {
-        return 1; // never
+        return Err(Refusal::Key); // never
     }
     if burn(direction as usize, direction as usize) != 0 {
-        return 1; // never
+        return Err(Refusal::Key); // never
     }
-    0
+    Ok(())
+}
+
+// The door: a key, blocks and a direction, 0 to encrypt and 1 to decrypt.
+pub fn locker_aes(direction: u32, key: &[u8], input: &[u8], output: &mut [u8]) -> u32
+    ensures { answers result output.new ≡ door_outcome direction key.now input.now output.old }
+{
+    number(crypt(direction, key, input, output))
 }
 
 pub fn locker_aes_expand32(key: &[u8], schedule: &mut [u32]) -> u32
     ensures { answers result schedule.new ≡ expand_outcome w32 key.now schedule.old }
 {
-    aes::w32::expand(key, schedule)
+    number(aes::expand(key, schedule))
 }
 
 pub fn locker_aes_encrypt32(schedule: &[u32], input: &[u8], output: &mut [u8]) -> u32
     ensures { answers result output.new ≡ encrypt_outcome w32 schedule.now input.now output.old }
 {
-    aes::w32::encrypt(schedule, input, output)
+    number(aes::encrypt(schedule, input, output))
 }
 
 pub fn locker_aes_decrypt32(schedule: &[u32], input: &[u8], output: &mut [u8]) -> u32
     ensures { answers result output.new ≡ decrypt_outcome w32 schedule.now input.now output.old }
 {
-    aes::w32::decrypt(schedule, input, output)
+    number(aes::decrypt(schedule, input, output))
 }
 
 pub fn locker_aes_check32(schedule: &[u32], output: &mut [u8]) -> u32
     ensures { answers result output.new ≡ check_outcome w32 schedule.now output.old }
 {
-    aes::w32::check_value(schedule, output)
+    number(aes::check_value(schedule, output))
 }
 
 pub fn locker_aes_expand64(key: &[u8], schedule: &mut [u64]) -> u32
     ensures { answers result schedule.new ≡ expand_outcome w64 key.now schedule.old }
 {
-    aes::w64::expand(key, schedule)
+    number(aes::expand(key, schedule))
 }
 
 pub fn locker_aes_encrypt64(schedule: &[u64], input: &[u8], output: &mut [u8]) -> u32
     ensures { answers result output.new ≡ encrypt_outcome w64 schedule.now input.now output.old }
 {
-    aes::w64::encrypt(schedule, input, output)
+    number(aes::encrypt(schedule, input, output))
 }
 
 pub fn locker_aes_decrypt64(schedule: &[u64], input: &[u8], output: &mut [u8]) -> u32
     ensures { answers result output.new ≡ decrypt_outcome w64 schedule.now input.now output.old }
 {
-    aes::w64::decrypt(schedule, input, output)
+    number(aes::decrypt(schedule, input, output))
 }
 
 pub fn locker_aes_check64(schedule: &[u64], output: &mut [u8]) -> u32
     ensures { answers result output.new ≡ check_outcome w64 schedule.now output.old }
 {
-    aes::w64::check_value(schedule, output)
+    number(aes::check_value(schedule, output))
 }

@@ -3,11 +3,11 @@ use borrow.Author.Rules.{rules}
 use Rattle.aes.proofs.Joined.{joined_none, joined_more, joined_all}
 use Rattle.aes.proofs.zero_key.Goals as goal
 
-pub loop-i-init : goal.loop-i-init
-loop-i-init c = joined_none _
+pub loop-byte-init : goal.loop-byte-init
+loop-byte-init c = joined_none _
 
-pub loop-i-preserved : goal.loop-i-preserved
-loop-i-preserved c = joined_more _ _ _ (search rules) c.loop-i.invariant
+pub loop-byte-preserved : goal.loop-byte-preserved
+loop-byte-preserved c = joined_more _ _ _ (search rules) c.loop-byte.invariant
 
 pub returns : goal.returns
-returns c = joined_all _ _ _ (search rules) c.loop-i.invariant
+returns c = joined_all _ _ _ (search rules) c.loop-byte.invariant

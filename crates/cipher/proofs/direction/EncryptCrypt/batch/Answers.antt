@@ -2,7 +2,7 @@
 use mathlib.Core.List.{map}
 use mathlib.Core.Path.{◌∙◌}
 use Rattle.cipher.proofs.Steps.{encrypted_is}
-use Rattle.cipher.proofs.direction.EncryptDirection.batch.Goals as goal
+use Rattle.cipher.proofs.direction.EncryptCrypt.batch.Goals as goal
 
 pub returns : goal.returns
 returns g c =

@@ -2,7 +2,7 @@
 use mathlib.Core.List.{map}
 use mathlib.Core.Path.{◌∙◌}
 use Rattle.cipher.proofs.Steps.{decrypted_is}
-use Rattle.cipher.proofs.direction.DecryptDirection.batch.Goals as goal
+use Rattle.cipher.proofs.direction.DecryptCrypt.batch.Goals as goal
 
 pub returns : goal.returns
 returns g c =

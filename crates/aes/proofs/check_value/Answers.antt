@@ -1,0 +1,26 @@
+-- Each answer by its law.
+use lib.ListN.{take}
+use mathlib.Core.List.{map}
+use mathlib.Core.Path.{◌∙◌, ap}
+use Rattle.aes.specs.KeySize.{rounds_for}
+use Rattle.aes.proofs.Answers.{valued, scheduled, check_refused, check_4, check_0}
+use Rattle.aes.proofs.check_value.Goals as goal
+
+pub returns-in_err-rounds : goal.returns-in_err-rounds
+returns-in_err-rounds g c =
+    let v = g.W.Word.value in
+    check_refused (map v c.args.schedule.now) g.W.Word.width _ (valued rounds_for v c.args.schedule.now c.in_err-rounds.ensures) _ c.from_residual.ensures.1
+
+pub returns-then-output-ne3 : goal.returns-then-output-ne3
+returns-then-output-ne3 g c =
+    let v = g.W.Word.value in
+    check_4 (map v c.args.schedule.now) g.W.Word.width _ (valued rounds_for v c.args.schedule.now c.in_ok-rounds.ensures) c.if-output-ne3.true
+
+pub invariant_of-schedule : goal.invariant_of-schedule
+invariant_of-schedule g c = record { scheduled = scheduled _ c.in_ok-rounds.ensures }
+
+pub returns : goal.returns
+returns g c =
+    let v = g.W.Word.value in
+    check_0 (map v c.args.schedule.now) g.W.Word.width _ (valued rounds_for v c.args.schedule.now c.in_ok-rounds.ensures) c.if-output-ne3.false
+    (c.copy_from_slice.ensures.after ∙ ap (take 3) c.tag_of_block-tag.ensures)
