@@ -16,7 +16,7 @@ loop-i-preserved c =
     let k : 16 * i + 16 - 16 * i ≡ 16 = omega arith in
     blocks_next c.args.from.now i (16 * i) (16 * i + 16 - 16 * i) (omega arith) k
     (omega (arith, k, c.loop-i-test.true)) c.requires.room (c.copy16.auto.part ∙ search rules)
-    (c.copy16.ensures ∙ search rules) c.loop-i.invariant
+    (c.copy16.ensures ∙ c.load16.ensures) c.loop-i.invariant
 
 pub returns : goal.returns
 returns c =
