@@ -37,6 +37,7 @@ fn shift_word<W: Word, const N: usize>(x: W) -> W
 }
 
 // ShiftRows N times on an AES state (or key).
+#[inline(always)]
 pub fn shift_rows<W: Word, const N: usize>(state: [W; 8]) -> [W; 8]
     requires { N < 4 }
     ensures { Does W.width (all (rows_shifted N)) (map W.value state) (map W.value result) }
@@ -54,6 +55,7 @@ pub fn shift_rows<W: Word, const N: usize>(state: [W; 8]) -> [W; 8]
 }
 
 // Its inverse: four row shifts are none.
+#[inline(always)]
 pub fn inv_shift_rows<W: Word>(state: [W; 8], times: usize) -> [W; 8]
     requires { times < 4 }
     ensures { Does W.width (all (rows_unshifted times)) (map W.value state) (map W.value result) }
