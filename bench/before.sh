@@ -9,9 +9,12 @@ need objcopy binutils
 commit=$(git rev-parse --verify --quiet "${1:?COMMIT}^{commit}") || fail "no commit $1"
 head=$(git rev-parse HEAD)
 
-# The packing of one batch, which no exported function does by itself: one more crate, in the two trees only.
+# The packing of one batch, which no exported function does by itself: one more crate, in the two trees only. Before the design pass each width had
+# modules of its own, and a state was put into eight words and not at an offset.
 packing() {
-    cat <<'END'
+    store='utils::w64::store(state,' load='utils::w64::load(state)' word=word::w64
+    if [ -f "$tree/crates/utils/src/word.rt" ]; then store='utils::store(state, 0,' load='utils::load(state, 0)' word=word; fi
+    cat <<END
 #![tactic(auto)]
 
 #[unsafe(no_mangle)]
@@ -22,7 +25,7 @@ pub extern "C" fn pack64(input: &[u8], state: &mut [u64]) -> u32 {
     if state.len() != 8 {
         return 2;
     }
-    utils::w64::store(state, word::w64::bitslice(input));
+    $store $word::bitslice(input));
     0
 }
 
@@ -34,7 +37,7 @@ pub extern "C" fn unpack64(state: &[u64], output: &mut [u8]) -> u32 {
     if output.len() != 64 {
         return 4;
     }
-    word::w64::inv_bitslice(utils::w64::load(state), output);
+    $word::inv_bitslice($load, output);
     0
 }
 END

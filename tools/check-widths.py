@@ -1,139 +1,72 @@
 #!/usr/bin/env python3
-"""check-widths.py: what stands twice, at 32 and at 64 bits, is the same text twice.
+"""check-widths.py: code and proofs stand once, over a word of either width, and at one width only where that is said below.
 
-The language had no generics when this was written, so a module NAME32 (src/NAME32.rt, proofs/NAME32/) has a twin NAME64. In each of their files a line
-
-    // ---- the same at both widths        (in a proof: -- ---- the same at both widths)
-
-ends a short header: comments, imports, the type of a word, and constants, with the same names in both; in a proof the header is the same
-but for its own width. Below the line the two files are the same, to the letter. It is an error if they are not, if a file has no such line
-or no twin, and if an exception below is not needed.
+A module at one width is a source NAME32.rt or NAME64.rt, or a folder of that name in proofs/ with the folders of its functions. And a source that takes
+w32 or w64 from lanes' Layout has contracts of one width. Each of these is an error but for the places below, and so is a place below that has none.
 """
 import os
 import re
 import sys
 
-MARKS = {".rt": "// ---- the same at both widths", ".antt": "-- ---- the same at both widths"}
-
-# A file, or a folder with all that is below it, by its 32-bit side; and why the two sides differ.
-EXCEPTIONS = {
-    "crates/word/src/blocks32.rt": "a column is a word of 32 bits; half a block is one of 64, and the two halves are swapped",
-    "crates/word/proofs/blocks32": "the proofs of that",
-    "crates/uses/proofs/w32": "the calls of host have their width in their names, and a proof names a call's facts by the call",
-    "crates/hex_text/src/w32.rt": "a number of 64 bits is a word as it stands; a word of 32 bits is cut from one and widened again",
+# A source without its ending, or a crate's name for all of its sources; and why it has a width.
+PLACES = {
+    "utils/w32": "the trait Word for u32",
+    "utils/w64": "the trait Word for u64",
+    "word/blocks32": "the trait Packed for u32",
+    "word/blocks64": "the trait Packed for u64",
+    "host/lib": "the calls that C has, at each width",
+    "host_c/lib": "what is exported of them",
 }
 
-DECLARATION = re.compile(r"(?:pub )?(?:const|type) (\w+)\b.*;$")
-IMPORT = re.compile(r"(?:ghost )?use \S.*$")
+MODULE = re.compile(r"\w*(32|64)")
+LAYOUT = re.compile(r"^ghost use Rattle\.lanes\.specs\.Layout\.\{([^}]*)\};", re.M)
 
 
-class Wrong(Exception):
-    pass
+def names_width(path):
+    """Whether a source takes a width from the layout."""
+    with open(path, encoding="utf-8") as f:
+        taken = " ".join(LAYOUT.findall(f.read()))
+    return re.search(r"\bw(32|64)\b", taken) is not None
 
 
-def twin(path):
-    """The 64-bit side of a path on the 32-bit side. A function's own name, as memshift32, stays."""
-    parts = path.split("/")
-    parts[3] = re.sub(r"32(\.rt)?$", r"64\1", parts[3])
-    return "/".join(parts)
+def modules(proofs):
+    """The folders of proofs/ that are a module's: what they hold is folders."""
+    for name in sorted(os.listdir(proofs)) if os.path.isdir(proofs) else []:
+        folder = os.path.join(proofs, name)
+        if os.path.isdir(folder) and any(os.path.isdir(os.path.join(folder, inner)) for inner in os.listdir(folder)):
+            yield name
 
 
-def parts_of(top, path):
-    """The lines above the mark, and those below it."""
-    with open(os.path.join(top, path), encoding="utf-8") as f:
-        lines = f.read().split("\n")
-    mark = MARKS[os.path.splitext(path)[1]]
-    if lines.count(mark) != 1:
-        raise Wrong(f"{path}: has {lines.count(mark)} lines `{mark}`, not one")
-    at = lines.index(mark)
-    return lines[:at], lines[at + 1 :]
-
-
-def whole_imports(header):
-    """Each line with its number; an import that `rt fmt` broke into several is one."""
-    at, held = 0, ""
-    for number, line in enumerate(header, 1):
-        at, held = (at, f"{held} {line.strip()}") if held else (number, line)
-        if not re.match(r"(?:ghost )?use ", held) or held.endswith(";"):
-            yield at, held
-            held = ""
-    if held:
-        yield at, held
-
-
-def said(path, header):
-    """What a header says, but for the width: the lines of a proof's; imports and declared names of a source's."""
-    other_width = lambda line: line.replace("32", "64")
-    if path.endswith(".antt"):
-        for number, line in enumerate(header, 1):
-            if not re.match(r"--|use ", line):
-                raise Wrong(f"{path}:{number}: neither a comment nor an import stands above the mark")
-        return [other_width(line) for line in header]
-    names = []
-    for number, line in whole_imports(header):
-        declared = DECLARATION.match(line)
-        if declared:
-            names.append(declared.group(1))
-        elif IMPORT.match(line):
-            names.append(other_width(line))
-        elif line and not line.startswith("//"):
-            raise Wrong(f"{path}:{number}: neither a comment, an import, a type nor a constant stands above the mark")
-    return sorted(names)
-
-
-def compare(top, a):
-    """Raises Wrong if the pair of the 32-bit side a is not the same text twice."""
-    b = twin(a)
-    for path, other in ((a, b), (b, a)):
-        if not os.path.exists(os.path.join(top, path)):
-            raise Wrong(f"{other}: has no twin {path}")
-    (head_a, body_a), (head_b, body_b) = parts_of(top, a), parts_of(top, b)
-    if said(a, head_a) != said(b, head_b):
-        raise Wrong(f"{a} and {b}: above the mark they say different things")
-    for i, (x, y) in enumerate(zip(body_a + [None], body_b + [None])):
-        if x != y:
-            raise Wrong(f"{a}:{len(head_a) + 2 + i} and {b}:{len(head_b) + 2 + i} differ")
-
-
-def pairs(top):
-    """The 32-bit sides of all pairs, whether or not both sides are there."""
-    found = set()
-    for crate in sorted(os.listdir(os.path.join(top, "crates"))):
-        sources = os.path.join(top, "crates", crate, "src")
-        modules = set()
-        for name in os.listdir(sources) if os.path.isdir(sources) else []:
-            m = re.fullmatch(r"(\w+?)(32|64)\.rt", name)
-            if m:
-                modules.add(m.group(1))
-                found.add(f"crates/{crate}/src/{m.group(1)}32.rt")
-        for module in modules:
-            for width in ("32", "64"):
-                below = f"crates/{crate}/proofs/{module}{width}"
-                for folder, folders, names in os.walk(os.path.join(top, below)):
-                    inner = os.path.relpath(folder, os.path.join(top, below))
-                    found.update(os.path.normpath(f"crates/{crate}/proofs/{module}32/{inner}/{n}") for n in names)
-    return sorted(found)
+def at_one_width(crates):
+    """Each place that stands at one width, with the path that says so."""
+    for crate in sorted(os.listdir(crates)):
+        sources = os.path.join(crates, crate, "src")
+        for folder, _, names in sorted(os.walk(sources)):
+            for name in sorted(names):
+                stem, ending = os.path.splitext(name)
+                path = os.path.join(folder, name)
+                if ending == ".rt" and (MODULE.fullmatch(stem) or names_width(path)):
+                    yield f"{crate}/{os.path.relpath(os.path.join(folder, stem), sources)}", path
+        proofs = os.path.join(crates, crate, "proofs")
+        for name in modules(proofs):
+            if MODULE.fullmatch(name):
+                yield f"{crate}/{name}", os.path.join(proofs, name)
 
 
 def main():
-    top = os.path.dirname(os.path.dirname(os.path.abspath(__file__)))
-    same, wrong, needed = 0, [], set()
-    for a in pairs(top):
-        excepted = [e for e in EXCEPTIONS if a == e or a.startswith(e + "/")]
-        try:
-            compare(top, a)
-            same += 1
-        except Wrong as e:
-            needed.update(excepted)
-            if not excepted:
-                wrong.append(str(e))
-    wrong += [f"tools/check-widths.py: the exception {e} is not needed" for e in EXCEPTIONS if e not in needed]
-    for line in wrong:
-        print(line)
-    if wrong:
-        print(f"check-widths: {len(wrong)} faults")
+    os.chdir(os.path.join(os.path.dirname(os.path.abspath(__file__)), ".."))
+    found, faults = set(), []
+    for place, path in at_one_width("crates"):
+        found.add(place)
+        if place not in PLACES:
+            faults.append(f"{path}: stands at one width")
+    faults += [f"tools/check-widths.py: {place} has no width, and need not stand there" for place in PLACES if place not in found]
+    for fault in faults:
+        print(fault)
+    if faults:
+        print(f"check-widths: {len(faults)} faults")
         return 1
-    print(f"ok {same} pairs are the same at both widths, {len(EXCEPTIONS)} exceptions")
+    print(f"ok {len(PLACES)} sources at one width, each for its reason")
     return 0
 
 

@@ -1,7 +1,7 @@
 #!/bin/sh
 # Says of each fault in a must-fail edit why the prover refused it. `rt ci` says of an edit that it was refused, and a check costs the same for one
-# fault as for ten, so an edit has several: tools/try-edit.sh checks each edit once more, and here its log is read. `# refused: w64::rounds` names the
-# function with the fault, `# refused: w64::rounds returns` one goal of it (for a function with two faults), `# refused: Laws stop` the law `stop` of
+# fault as for ten, so an edit has several: tools/try-edit.sh checks each edit once more, and here its log is read. `# refused: refusal::number` names the
+# function with the fault, `# refused: refusal::number returns` one goal of it (for a function with two faults), `# refused: Laws stop` the law `stop` of
 # proofs/Laws.antt, and in the log a fact of its own must have failed. What was refused only since it rests on another refusal does not count; nor does
 # an edit that made a proof unfit for the code (a goal that is gone or new, a name that is not there, a text that does not parse), nor one that was
 # not tried. tools/judge-edits.sh [EDIT..]: only these.

@@ -29,7 +29,7 @@ stubs() {
     cp tools/archive.sh tools/judge-edits.sh tools/try-edit.sh "$tree/tools/"
     echo 'one:' >"$tree/crates.txt"
     echo 'a' >"$tree/crates/one/src/lib.rt"
-    edit '# refused: w64::f'
+    edit '# refused: part::f'
     echo 'exit "${STUB_CHECK:-0}"' | script "$tree/tools/check-stub.sh"
     sed -n "/^runs='/,/^'/p" .ci/run | sed '1d; $d' | while read -r run _; do
         echo '[ -z "${LOCKER_AES_LIB:-}" ] && echo ok stub' | script "$tree/$run"
@@ -47,7 +47,7 @@ case $1 in
     lib) mkdir -p out && : >out/libhost_c.a && exit "${STUB_LIB:-0}" ;;
     check)
         grep -qx b src/lib.rt || exit 0
-        refusal='./proofs/w64/f/Answers.antt:1:1: error: `returns`: they differ'
+        refusal='./proofs/part/f/Answers.antt:1:1: error: `returns`: they differ'
         printf '%s\n' "so far: $refusal" "${STUB_LOG:-$refusal}" "logic=${STUB_LOGIC:-not-proved}"
         exit "${STUB_TRIED:-1}"
         ;;
@@ -97,22 +97,22 @@ fails 'of 1 must-fail edits rt ci refused 0' STUB_OK='ok; handles allowed: none;
 fails 'bad must-fail edits' STUB_OK='ok; handles allowed: none; must-fail edits: 1 refused, 1 bad; every'
 fails 'tools/archive.sh failed' STUB_LIB=1
 at=./proofs
-passes STUB_LOG='fn one::w64::f: no proof: expected answers in ./proofs/w64/f/Answers.antt; `search` did not prove `returns`'
-fails 'shows nothing' STUB_LOG="$at/w64/f/Answers.antt:1:1: error: \`returns\`: record \`Lts.Past\` has no field \`ror\`"
-fails 'shows nothing' STUB_LOG="$at/w64/f/Answers.antt:1:1: error: \`returns-2\`: module \`Goals\` has no \`returns-2\` that can be named"
-fails 'shows nothing' STUB_LOG="$at/w64/f/Answers.antt:1:1: error: \`returns\`: \`close\` was not admitted"
-fails 'shows nothing' STUB_LOG="$at/w64/g/Answers.antt:1:1: error: \`returns\`: they differ"
-fails 'shows nothing' STUB_LOG="$at/w64/f/Answers.antt:1:1: error: 1 declaration that depends on \`start\` was not checked: returns"
-fails 'shows nothing' STUB_LOG='fn one::w64::f: no proof: it calls `one::w64::g`, which is not proved'
-fails 'shows nothing' STUB_LOG='fn one::w64::f: not proved'
+passes STUB_LOG='fn one::part::f: no proof: expected answers in ./proofs/part/f/Answers.antt; `search` did not prove `returns`'
+fails 'shows nothing' STUB_LOG="$at/part/f/Answers.antt:1:1: error: \`returns\`: record \`Lts.Past\` has no field \`ror\`"
+fails 'shows nothing' STUB_LOG="$at/part/f/Answers.antt:1:1: error: \`returns-2\`: module \`Goals\` has no \`returns-2\` that can be named"
+fails 'shows nothing' STUB_LOG="$at/part/f/Answers.antt:1:1: error: \`returns\`: \`close\` was not admitted"
+fails 'shows nothing' STUB_LOG="$at/part/g/Answers.antt:1:1: error: \`returns\`: they differ"
+fails 'shows nothing' STUB_LOG="$at/part/f/Answers.antt:1:1: error: 1 declaration that depends on \`start\` was not checked: returns"
+fails 'shows nothing' STUB_LOG='fn one::part::f: no proof: it calls `one::part::g`, which is not proved'
+fails 'shows nothing' STUB_LOG='fn one::part::f: not proved'
 fails 'shows nothing' STUB_LOGIC=proved
 fails 'shows nothing' STUB_TRIED=0
 fails 'shows nothing' STUB_TRIED=3
-edit '# refused: w64::f returns'
+edit '# refused: part::f returns'
 passes GATE_ALLOW_SKIP=
-passes STUB_LOG='fn one::w64::f: no proof: expected answers in ./proofs/w64/f/Answers.antt; `search` did not prove `returns`'
-fails 'shows nothing' STUB_LOG='fn one::w64::f: no proof: expected answers in ./proofs/w64/f/Answers.antt; `search` did not prove `returns-2`'
-fails 'shows nothing' STUB_LOG="$at/w64/f/Answers.antt:1:1: error: \`again\`: they differ"
+passes STUB_LOG='fn one::part::f: no proof: expected answers in ./proofs/part/f/Answers.antt; `search` did not prove `returns`'
+fails 'shows nothing' STUB_LOG='fn one::part::f: no proof: expected answers in ./proofs/part/f/Answers.antt; `search` did not prove `returns-2`'
+fails 'shows nothing' STUB_LOG="$at/part/f/Answers.antt:1:1: error: \`again\`: they differ"
 edit '# refused: Laws stop'
 passes STUB_LOG="$at/Laws.antt:1:1: error: \`stop\`: they differ"
 fails 'shows nothing' STUB_LOG="$at/Laws.antt:1:1: error: \`pass\`: they differ"
@@ -122,7 +122,7 @@ edit '# refused: Laws stop' 'file: src/lib.rt' 'old: a' 'new: c' '' 'old: c' 'ne
 fails 'shows nothing' STUB_LOG="$at/Laws.antt:1:1: error: \`stop\`: they differ" # a fault that names no place
 edit '# A fault.'
 fails 'shows nothing' GATE_ALLOW_SKIP=
-edit '# refused: w64::f'
+edit '# refused: part::f'
 rm "$tree/tests/oracle/run.sh"
 fails 'is listed, and there is no such script' GATE_ALLOW_SKIP=1
 [ "${1:-}" = stubs ] || LOCKER_AES_LIB=$lib tests/faults/run.sh '(in the gate)'
