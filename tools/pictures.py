@@ -169,7 +169,7 @@ PROVES = {
     "appendices": "the standards' worked examples, computed from the definitions",
     "outcome": "answers and refusals as values, and their laws",
     "calls": "what each public call promises; both sides of each limit, computed",
-    "utils": "swaps, rotations, and eight words as one value",
+    "utils": "a word of either width as a number; swaps, rotations, and eight words as one value",
     "shift_rows": "the row shifts do that to every slot's block",
     "round_keys": "a key added, and the next one made, in every slot",
     "word": "packing and unpacking are the layout and its inverse",
