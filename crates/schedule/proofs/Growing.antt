@@ -26,7 +26,8 @@ pub loaded_none : {w : Width} {m : ℕ} {key l : List ℕ} → LoadedSo w m 0 ke
 loaded_none = record { few = omega arith; long = refl; done = record { at = λ b h r k. absurd (omega arith) } }
 
 -- block i broadcast to s, and s stored: j is 16 * i + 16 - 16 * i
-pub loaded_more : (w : Width) (i j : ℕ) {m : ℕ} {key l₀ l l' : List ℕ} (s : List ℕ) → j ≡ 16 → i < m → 8 * i + 8 ≤ length l → length l' ≡ length l → length s ≡ 8
+pub loaded_more : (w : Width) (i j : ℕ) {m : ℕ} {key l₀ l l' : List ℕ} (s : List ℕ) → j ≡ 16 → i < m
+    → 8 * i + 8 ≤ length l → length l' ≡ length l → length s ≡ 8
     → ((b : ℕ) → b < slots w → slot w s b ≡ take j (drop (16 * i) key)) → l' ≡ put l (8 * i) s → LoadedSo w m i key l₀ l
     → LoadedSo w m (i + 1) key l₀ l'
 loaded_more w i j {key = key} {l₀} {l} {l'} s ej less fits long eight each kept t =

@@ -7,4 +7,5 @@ use Rattle.host.proofs.locker_aes_expand32.Goals as goal
 
 pub returns : goal.returns
 returns c =
-    expand_valued w32 c.args.key.now c.args.schedule.now (slice_fit w32 _ (search rules)) (slice_fit w32 _ c.type_inv.schedule) c.number.ensures c.expand.ensures
+    let old = c.args.schedule.now in
+    expand_valued w32 c.args.key.now old (slice_fit w32 _ (search rules)) (slice_fit w32 _ c.type_inv.schedule) c.number.ensures c.expand.ensures
