@@ -1,8 +1,8 @@
 -- From the contracts of the calls of host, `answers r x ≡ its outcome`, by the theorems of the calls: nothing else of crate host is known here.
 -- Once over the width. Assumes nothing.
 use mathlib.Core.Path.{◌≡◌, refl, sym, ◌∙◌, ap}
-use mathlib.Core.List.{List}
-use Prim.Native.Nat.{ℕ, ◌*◌, ◌/◌, ◌≤◌, ◌<◌}
+use mathlib.Core.List.{List, map}
+use Prim.Native.Nat.{ℕ, ◌*◌, ◌/◌, ◌%◌, ◌^◌, ◌≤◌, ◌<◌}
 use native.Mathlib.Omega.{arith}
 use lib.Dec.{lit<, lit≤}
 use lib.ListN.{length, take, drop, replicate}
@@ -14,6 +14,7 @@ use Rattle.lanes.specs.Layout.{Width, bits}
 use Rattle.lanes.specs.Schedule.{blocks_in}
 use Rattle.lanes.proofs.EachBlock.{block_of}
 use Rattle.lanes.proofs.Cuts.{blocks_are}
+use Rattle.lanes.proofs.Values.{values_are}
 use Rattle.cipher.proofs.Batches.{Way, forth, backwards}
 use Rattle.outcome.specs.Outcome.{answers}
 use Rattle.calls.specs.Calls.{Taken, schedule_words, rounds_of, whole_blocks, TakenBlocks, expand_outcome, crypt_outcome}
@@ -126,6 +127,12 @@ pub expand_destroyed : (w : Width) (key s : List ℕ) {r : ℕ} {x : List ℕ} �
 expand_destroyed w key s a = record { destroyed = λ p z. expand_refuses_zeros key p z w s a }
 
 -- ---- by a schedule, at each width
+-- the words of a schedule and the numbers that they are
+pub expand_by_values : (w : Width) (key old : List ℕ) {new : List ℕ} {r : ℕ} → Fit (bits w) old → Fit (bits w) new
+    → answers r new ≡ expand_outcome w key old → answers r (map (λ x. x % 2 ^ bits w) new) ≡ expand_outcome w key (map (λ x. x % 2 ^ bits w) old)
+expand_by_values w key old {new} {r} f g e =
+    ap (answers r) (values_are (bits w) new g) ∙ e ∙ ap (expand_outcome w key) (sym (values_are (bits w) old f))
+
 -- the key, the room for its schedule, and blocks
 record Good (key l i s o : List ℕ) : Type 0 where
   taken : Taken key

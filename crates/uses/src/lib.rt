@@ -2,8 +2,8 @@
 // else: a contract that lost its meaning would leave this crate unproved.
 #![tactic(auto)]
 
-pub mod w32;
-pub mod w64;
+pub mod by_schedule;
+pub mod schedule_calls;
 
 ghost use Rattle.std.specs.Prelude.{◌≡◌, replicate};
 ghost use Rattle.uses.specs.Promises.{DoorBack, Alone, Refused, Destroyed};

@@ -6,22 +6,10 @@ use Rattle.uses.proofs.door_and_back.Goals as goal
 
 pub returns-then-number-ne0 : goal.returns-then-number-ne0
 returns-then-number-ne0 c =
-    let a = c.args in
-    door_stops a.key.now a.input.now a.sealed.now a.opened.now
-    (byte_fit _ (search rules))
-    (byte_fit _ (search rules))
-    (byte_fit _ (search rules))
-    (byte_fit _ (search rules))
-    c.locker_aes-number.ensures
-    c.if-number-ne0.true
+    door_stops _ _ _ _ (byte_fit _ (search rules)) (byte_fit _ (search rules)) (byte_fit _ (search rules)) (byte_fit _ (search rules))
+    c.locker_aes-number.ensures c.if-number-ne0.true
 
 pub returns : goal.returns
 returns c =
-    let a = c.args in
-    door_back a.key.now a.input.now a.sealed.now a.opened.now
-    (byte_fit _ (search rules))
-    (byte_fit _ (search rules))
-    (byte_fit _ (search rules))
-    (byte_fit _ (search rules))
-    c.locker_aes-number.ensures
-    c.locker_aes.ensures
+    door_back _ _ _ _ (byte_fit _ (search rules)) (byte_fit _ (search rules)) (byte_fit _ (search rules)) (byte_fit _ (search rules))
+    c.locker_aes-number.ensures c.locker_aes.ensures

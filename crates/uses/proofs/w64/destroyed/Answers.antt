@@ -1,9 +1,0 @@
--- By the theorem that a key of zeros is refused.
-use Rattle.lanes.specs.Layout.{w64 as w}
-use Rattle.uses.proofs.Laws.{expand_destroyed}
-use Rattle.uses.proofs.w64.destroyed.Goals as goal
-
-pub returns : goal.returns
-returns c =
-    let a = c.args in
-    expand_destroyed w a.key.now a.schedule.now c.locker_aes_expand64.ensures
