@@ -41,7 +41,7 @@ fn zeros() -> [u8; 64] {
 }
 
 // At most a batch, in a batch that is lent: the slots that are left hold zeros, and what becomes of these is dropped.
-fn crypt_in<D: Crypt, W: Packed>(
+fn crypt_in<C: Crypt, W: Packed>(
     schedule: &Schedule<W>,
     input: &[u8],
     output: &mut [u8],
@@ -53,23 +53,23 @@ fn crypt_in<D: Crypt, W: Packed>(
     requires output { length output.old ≡ length input.now }
     requires batch { length batch.old ≡ 16 * slots W.width }
     requires out { length out.old ≡ 16 * slots W.width }
-    ensures { output.new ≡ crypted D.crypt W.width schedule.now.rounds (map W.value schedule.now.words.now) input.now }
+    ensures { output.new ≡ crypted C.crypt W.width schedule.now.rounds (map W.value schedule.now.words.now) input.now }
 {
     copy_blocks(input, &mut batch[0..input.len()]);
-    crypt_batches::<D, W>(schedule, batch, out);
+    crypt_batches::<C, W>(schedule, batch, out);
     copy_blocks(&out[0..input.len()], output);
 }
 
 // At most a batch, in one of its own.
-fn crypt_part<D: Crypt, W: Packed>(schedule: &Schedule<W>, input: &[u8], output: &mut [u8])
+fn crypt_part<C: Crypt, W: Packed>(schedule: &Schedule<W>, input: &[u8], output: &mut [u8])
     requires whole { length input.now % 16 ≡ 0 }
     requires most { length input.now ≤ 16 * slots W.width }
     requires output { length output.old ≡ length input.now }
-    ensures { output.new ≡ crypted D.crypt W.width schedule.now.rounds (map W.value schedule.now.words.now) input.now }
+    ensures { output.new ≡ crypted C.crypt W.width schedule.now.rounds (map W.value schedule.now.words.now) input.now }
 {
     let mut batch = zeros();
     let mut out = zeros();
-    crypt_in::<D, W>(
+    crypt_in::<C, W>(
         schedule,
         input,
         output,
@@ -79,23 +79,23 @@ fn crypt_part<D: Crypt, W: Packed>(schedule: &Schedule<W>, input: &[u8], output:
 }
 
 // Any number of blocks: the full batches, and then the part of one that is left. (Less than one at once: docs/DECISIONS.md, 48.)
-pub fn crypt<D: Crypt, W: Packed>(schedule: &Schedule<W>, input: &[u8], output: &mut [u8])
+pub fn crypt<C: Crypt, W: Packed>(schedule: &Schedule<W>, input: &[u8], output: &mut [u8])
     requires whole { length input.now % 16 ≡ 0 }
     requires output { length output.old ≡ length input.now }
-    ensures { output.new ≡ crypted D.crypt W.width schedule.now.rounds (map W.value schedule.now.words.now) input.now }
+    ensures { output.new ≡ crypted C.crypt W.width schedule.now.rounds (map W.value schedule.now.words.now) input.now }
 {
     let len = input.len();
     let batch = W::BATCH;
     if len < batch {
-        crypt_part::<D, W>(schedule, input, output);
+        crypt_part::<C, W>(schedule, input, output);
         return;
     }
     let full = batch * (len / batch);
-    crypt_batches::<D, W>(schedule, &input[0..full], &mut output[0..full]);
+    crypt_batches::<C, W>(schedule, &input[0..full], &mut output[0..full]);
     if full == len {
         return;
     }
-    crypt_part::<D, W>(schedule, &input[full..len], &mut output[full..len]);
+    crypt_part::<C, W>(schedule, &input[full..len], &mut output[full..len]);
 }
 
 // One block under the round keys of slot 0, in a batch that is lent, without the loops of a part.

@@ -24,4 +24,4 @@ returns g c =
     let l = c.args.schedule.now in
     c.copy_blocks-2.ensures
     ∙ front_is w c.args.batch.now (length c.args.input.now - 0) (omega arith) c.copy_blocks.ensures c.requires.batch c.requires.most _
-    (reading_long g.D.Crypt.crypt g.met.D.Crypt.long w l.rounds (map g.W.Word.value l.words.now)) c.requires.whole c.crypt_batches.ensures
+    (reading_long g.C.Crypt.crypt g.met.C.Crypt.long w l.rounds (map g.W.Word.value l.words.now)) c.requires.whole c.crypt_batches.ensures

@@ -8,7 +8,7 @@ use Rattle.cipher.proofs.crypt_batches.Given as goal
 abbrev pub invariant-loop-i : goal.invariant-loop-i
 invariant-loop-i g l =
     let keys = reading g.W.Word.width l.schedule.rounds (map g.W.Word.value l.schedule.words.now) in
-    BatchesDone g.W.Word.width (λ b. g.D.Crypt.crypt (keys b)) l.input l.i l.initial.output l.output
+    BatchesDone g.W.Word.width (λ b. g.C.Crypt.crypt (keys b)) l.input l.i l.initial.output l.output
 
 abbrev pub decreases-loop-i : goal.decreases-loop-i
 decreases-loop-i g l = l.i-end - l.i
