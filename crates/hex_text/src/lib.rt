@@ -1,12 +1,12 @@
-// What the programs share: their input; the lines and fields of a text, its hex digits, and printing. No contract says more than its callers need.
+// What the programs share: their input; the fields of a line and their hex digits; and printing. No contract says more than its callers need.
 #![tactic(auto)]
 
 pub mod words;
 
-ghost use Rattle.std.specs.Prelude.{◌≤◌, ◌<◌, length, IfOk};
+ghost use Rattle.std.specs.Prelude.{◌≡◌, ◌<◌, ◌≤◌, length, IfOk, IfSome};
 
-use std::io;
 use std::io::Read;
+use std::{fmt, io};
 
 // Reads until the space is full or the input ends, and says how many bytes came. std's `read_exact` refuses a shorter input.
 pub fn read_full<R: Read>(input: &mut R, space: &mut [u8]) -> io::Result<usize>
@@ -23,94 +23,86 @@ pub fn read_full<R: Read>(input: &mut R, space: &mut [u8]) -> io::Result<usize>
     Ok(done)
 }
 
-// The index of the first `mark` of a text from `at` on, or the text's length.
-pub fn find(text: &[u8], at: usize, mark: u8) -> usize
-    requires { at ≤ length text.now }
-    ensures { (at ≤ result) × (result ≤ length text.now) }
-{
-    for i in at..text.len() {
-        if text[i] == mark {
-            return i;
-        }
-    }
-    text.len()
-}
-
 // Field number k of a line, from 0, between single spaces; empty where the line has fewer.
 pub fn field(line: &[u8], k: usize) -> &[u8] {
-    let mut at = 0;
-    let mut end = find(line, 0, b' ');
-    for _ in 0..k {
-        if end == line.len() {
-            return &line[end..];
-        }
-        at = end + 1;
-        end = find(line, at, b' ');
-    }
-    &line[at..end]
+    line.split(|byte| *byte == b' ').nth(k).unwrap_or(b"")
 }
 
-// n bytes of a text from `at` on; empty where it ends before.
-pub fn part(text: &[u8], at: usize, n: usize) -> &[u8] {
-    if at <= text.len() && n <= text.len() - at {
-        return &text[at..at + n];
-    }
-    &text[..0]
-}
-
-// The value of a digit; 0 where there is none.
-fn digit(text: &[u8], at: usize) -> u8
-    ensures { result < 16 }
+// The value of a digit. `char::to_digit` takes upper case too.
+fn digit(byte: u8) -> Option<u8>
+    ensures { IfSome result (λ d. d < 16) }
 {
-    if at >= text.len() {
-        return 0;
-    }
-    match text[at] {
-        b'0'..=b'9' => text[at] - b'0',
-        b'a'..=b'f' => text[at] - b'a' + 10,
-        _ => 0,
+    match byte {
+        b'0'..=b'9' => Some(byte - b'0'),
+        b'a'..=b'f' => Some(byte - b'a' + 10),
+        _ => None,
     }
 }
 
-// The number that digits spell, up to sixteen of them.
-pub fn number(digits: &[u8]) -> u64 {
-    let mut value: u64 = 0;
-    for i in 0..digits.len() {
-        value = (value << 4) | (digit(digits, i) as u64);
+// The number that digits spell, up to sixteen of them; what is no digit counts as 0.
+fn number(digits: &[u8]) -> u64 {
+    digits.iter().fold(
+        0,
+        |value, byte| (value << 4) | u64::from(digit(*byte).unwrap_or(0)),
+    )
+}
+
+// The byte that the first two digits spell; what is none, or is not there, counts as 0.
+fn byte(digits: &[u8]) -> u8 {
+    let nibble = |k: usize| digits.get(k).and_then(|byte| digit(*byte)).unwrap_or(0);
+    (nibble(0) << 4) | nibble(1)
+}
+
+// Bytes from their digits, two each; bytes stay as they were where the digits end.
+fn read(digits: &[u8], bytes: &mut [u8]) {
+    for (to, pair) in bytes.iter_mut().zip(digits.chunks(2)) {
+        *to = byte(pair);
     }
-    value
 }
 
-// Bytes from their digits, two each.
-pub fn read(digits: &[u8], bytes: &mut [u8]) {
-    for i in 0..bytes.len() {
-        bytes[i] = digit(digits, 2 * i) * 16 + digit(digits, 2 * i + 1);
+// N bytes from their digits; zeros where these end before.
+pub fn array<const N: usize>(digits: &[u8]) -> [u8; N] {
+    let mut bytes = [0; N];
+    read(digits, &mut bytes);
+    bytes
+}
+
+// As many bytes as digits have pairs, N at most.
+#[derive(Drop)]
+pub struct Bytes<const N: usize> {
+    space: [u8; N],
+    len: usize,
+    ghost fits: { len ≤ N },
+}
+
+impl<const N: usize> Bytes<N> {
+    // None where there are more.
+    pub fn read(digits: &[u8]) -> Option<Bytes<N>> {
+        let len = digits.len() / 2;
+        if len > N {
+            return None;
+        }
+        let mut space = [0; N];
+        read(digits, &mut space[..len]);
+        Some(Bytes { space, len })
+    }
+
+    pub fn as_slice(&self) -> &[u8]
+        ensures { length result.now ≤ N }
+    {
+        &self.space[..self.len]
     }
 }
 
-// Prints bytes as digits, two each.
-pub fn print(rt: &impl Print, bytes: &[u8]) -> io::Result<()> {
-    for byte in bytes {
-        print!(rt; "{byte:02x}")?;
-    }
-    Ok(())
-}
+// Bytes that are printed as their digits, two each.
+#[derive(Clone, Copy)]
+pub struct Hex<'a>(pub &'a [u8]);
 
-pub fn say(rt: &impl Print, text: &[u8]) -> io::Result<()> {
-    rt.write_all(text)
-}
-
-// Prints a name and a number.
-pub fn say_count(rt: &impl Print, name: &[u8], n: usize) -> io::Result<()> {
-    say(rt, name)?;
-    print!(rt; "{n}")
-}
-
-// What stands after word number i of a schedule that is printed: eight words make a line.
-fn gap(rt: &impl Print, i: usize) -> io::Result<()> {
-    if i % 8 == 7 {
-        say(rt, b"\n")
-    } else {
-        say(rt, b" ")
+impl fmt::Display for Hex<'_> {
+    fn fmt<W: fmt::Write>(&self, f: &mut fmt::Formatter<W>) -> fmt::Result {
+        for byte in self.0 {
+            write!(f, "{byte:02x}")?;
+        }
+        Ok(())
     }
 }

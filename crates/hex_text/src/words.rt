@@ -1,11 +1,12 @@
 // Words of a schedule or a state as hex digits, the same at both widths.
-ghost use Rattle.std.specs.Prelude.{◌<◌, ℕ};
-ghost use Rattle.std.proofs.Math.Dec.{lit<};
+ghost use Rattle.std.specs.Prelude.{◌<◌, ◌≤◌, ℕ};
+ghost use Rattle.std.specs.Mem.{type_size};
+ghost use Rattle.std.proofs.Math.Dec.{lit<, lit≤};
 
 use std::io;
 
 // A word by its digits, the first the highest.
-pub trait HexWord: Copy {
+pub trait HexWord: Copy + PartialEq {
     const DIGITS: usize;
 
     ghost DIGITS: { ℕ };
@@ -16,6 +17,9 @@ pub trait HexWord: Copy {
     fn number(self) -> u64;
 
     ghost some_digits: { 0 < DIGITS };
+
+    // It is of eight bytes at most, so that a generic function may have a room of words in a variable.
+    ghost small: { type_size Self.row ≤ 8 };
 }
 
 impl HexWord for u32 {
@@ -32,6 +36,8 @@ impl HexWord for u32 {
     }
 
     ghost some_digits = { lit< tt };
+
+    ghost small = { lit≤ tt };
 }
 
 impl HexWord for u64 {
@@ -48,20 +54,27 @@ impl HexWord for u64 {
     }
 
     ghost some_digits = { lit< tt };
+
+    ghost small = { lit≤ tt };
 }
 
-// Words from their digits, with nothing between.
+// Words from their digits, with nothing between; words stay as they were where the digits end.
 pub fn read<W: HexWord>(digits: &[u8], words: &mut [W]) {
     for (word, text) in words.iter_mut().zip(digits.chunks_exact(W::DIGITS)) {
         *word = W::from_number(super::number(text));
     }
 }
 
+// What stands after word number i of a schedule that is printed: eight words make a line.
+fn gap(i: usize) -> &'static str {
+    if i % 8 == 7 { "\n" } else { " " }
+}
+
 // Prints words, eight a line.
 pub fn print<W: HexWord>(rt: &impl Print, words: &[W]) -> io::Result<()> {
     for (i, word) in words.iter().enumerate() {
         print!(rt; "{:01$x}", word.number(), W::DIGITS)?;
-        super::gap(rt, i)?;
+        rt.print(gap(i))?;
     }
     Ok(())
 }
