@@ -2,14 +2,39 @@
 // answers have. The library has none of this.
 #![tactic(auto)]
 
-pub mod w32;
-pub mod w64;
-
 ghost use Rattle.std.specs.Prelude.{◌≤◌};
+
+use aes::refusal::Refusal;
+use aes::{expand, key_size, zero_key};
+use schedule::key_schedule;
+use word::packed::Packed;
 
 // The schedule's words for a key of so many bytes. Other lengths are the calls' to refuse.
 pub fn words_for(key: usize) -> usize
     ensures { result ≤ 120 }
 {
     if key == 16 { 88 } else { 120 }
+}
+
+// Room for the longest schedule. A call, so that a goal says its result and not 120 zeros.
+pub fn blank<W: Packed>() -> [W; 120] {
+    [W::byte_repeat(0); 120]
+}
+
+// The schedule of any key, by the function that the public call rests on.
+fn inner<W: Packed>(key: &[u8], schedule: &mut [W]) -> Result<(), Refusal> {
+    if schedule.len() != key_size(key.len())?.words {
+        return Err(Refusal::Schedule);
+    }
+    key_schedule(key, schedule);
+    Ok(())
+}
+
+// Expands a key by the public call, and one of zeros, which that call must refuse, by the inner function. Whether all went so.
+pub fn expands<W: Packed>(key: &[u8], schedule: &mut [W]) -> bool {
+    let answer = expand(key, schedule);
+    if zero_key(key) {
+        return answer == Err(Refusal::ZeroKey) && inner(key, schedule).is_ok();
+    }
+    answer.is_ok()
 }
