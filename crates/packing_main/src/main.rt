@@ -3,28 +3,25 @@
 // words, the bytes that unpacking gives, and the words that packing gives of those. tools/packing_expected.py says what is right.
 #![tactic(auto)]
 
-mod w32;
-mod w64;
+mod both_ways;
 
+use both_ways::both_ways;
 use std::io;
 
 fn one(rt: &impl Print, line: &[u8]) -> io::Result<()> {
-    hex_text::say(rt, line)?;
-    hex_text::say(rt, b"\n")?;
+    rt.write_all(line)?;
+    println!(rt)?;
     let digits = hex_text::field(line, 1);
     match digits.len() {
-        64 => w32::both_ways(rt, digits),
-        128 => w64::both_ways(rt, digits),
-        _ => hex_text::say(rt, b"neither 64 digits nor 128\n"),
+        64 => both_ways::<u32>(rt, digits),
+        128 => both_ways::<u64>(rt, digits),
+        _ => println!(rt; "neither 64 digits nor 128"),
     }
 }
 
 fn all(rt: &impl Print, text: &[u8]) -> io::Result<()> {
-    let mut at = 0;
-    while at < text.len() {
-        let end = hex_text::find(text, at, b'\n');
-        one(rt, &text[at..end])?;
-        at = end + 1;
+    for line in text.split_inclusive(|byte| *byte == b'\n') {
+        one(rt, line.strip_suffix(b"\n").unwrap_or(line))?;
     }
     Ok(())
 }
