@@ -3,29 +3,21 @@
 // the public call (crate below), which refuses that key; how many it refused is printed too.
 #![tactic(auto)]
 
-mod w32;
-mod w64;
+mod any_key;
 
-ghost use Rattle.std.specs.Prelude.{◌≡◌, ◌+◌, ◌^◌, ◌<◌, ◌≤◌, length};
+ghost use Rattle.std.specs.Prelude.{◌≡◌, ◌+◌, ◌*◌, ◌^◌, ◌<◌, ◌≤◌, length};
+ghost use Rattle.lanes.specs.Layout.{slots};
 
+use aes::refusal::Refusal;
+use hex_text::Bytes;
+use hex_text::words::HexWord;
 use std::io;
+use word::packed::Packed;
 
-// The first so many bytes of the input through the calls at so many bits.
-fn crypt(bits: usize, key: &[u8], decrypts: bool, input: &[u8], output: &mut [u8]) -> u32
-    requires { (bits ≤ length input.now) × (bits ≤ length output.old) }
-{
-    if bits == 32 {
-        w32::crypt(key, decrypts, &input[0..bits], &mut output[0..bits])
-    } else {
-        w64::crypt(key, decrypts, &input[0..bits], &mut output[0..bits])
-    }
-}
-
-// A block into a slot.
-fn put(digits: &[u8], batch: &mut [u8], at: usize)
-    requires { at + 16 ≤ length batch.old }
-{
-    hex_text::read(digits, &mut batch[at..at + 16]);
+#[derive(Clone, Copy)]
+pub enum Call {
+    Encrypt,
+    Decrypt,
 }
 
 // A batch of bytes x. A call, so that a goal says its result and not every byte.
@@ -33,113 +25,121 @@ fn batch(x: u8) -> [u8; 64] {
     [x; 64]
 }
 
-// 1 where the block of field `from`, 1 or 2, comes out as the other one, in a slot of a batch with other bytes elsewhere; else 0.
-fn passes(bits: usize, key: &[u8], line: &[u8], from: usize, slot: usize) -> usize
-    requires { (bits ≤ 64) × (from < 3) × (slot < 4) }
-    ensures { result ≤ 1 }
-{
-    let at = 16 * slot;
-    let mut input = batch(0xa5);
-    put(hex_text::field(line, from), &mut input, at);
-    let mut right = [0u8; 16];
-    hex_text::read(hex_text::field(line, 3 - from), &mut right);
-    let mut output = batch(0x5a);
-    if crypt(bits, key, from == 2, &input, &mut output) != 0 {
-        return 0;
-    }
-    if output[at..at + 16] == right[..] {
-        1
-    } else {
-        0
-    }
-}
-
-// 1 where the public calls refuse a key as zeros, at both widths; else 0.
-fn refused(key: &[u8]) -> usize
-    ensures { result ≤ 1 }
-{
-    if w32::expand(key) == 6 && w64::expand(key) == 6 {
-        1
-    } else {
-        0
-    }
-}
-
-// Of a record: how many of its four checks pass, and whether its key is refused.
 #[derive(Drop)]
-struct Found {
-    passed: usize,
-    zeros: usize,
+struct Record {
+    key: Bytes<32>,
+    plaintext: [u8; 16],
+    ciphertext: [u8; 16],
 }
 
-// The slot goes round with the record's number.
-fn checks(key: &mut [u8], line: &[u8], number: usize) -> Found
-    ensures { (result.passed ≤ 4) × (result.zeros ≤ 1) }
-{
-    hex_text::read(hex_text::field(line, 0), key);
-    let passed = passes(32, key, line, 1, number % 2)
-        + passes(32, key, line, 2, number % 2)
-        + passes(64, key, line, 1, number % 4)
-        + passes(64, key, line, 2, number % 4);
-    Found {
-        passed,
-        zeros: refused(key),
+impl Record {
+    // None where the key is longer than any.
+    fn parse(line: &[u8]) -> Option<Record> {
+        Some(Record {
+            key: Bytes::read(hex_text::field(line, 0))?,
+            plaintext: hex_text::array(hex_text::field(line, 1)),
+            ciphertext: hex_text::array(hex_text::field(line, 2)),
+        })
     }
-}
 
-fn record(line: &[u8], number: usize) -> Found
-    ensures { (result.passed ≤ 4) × (result.zeros ≤ 1) }
-{
-    let mut key = [0u8; 32];
-    let n = hex_text::field(line, 0).len() / 2;
-    if n > 32 {
-        return Found {
-            passed: 0,
-            zeros: 0,
+    // Whether one block comes out as the other, in a slot of a batch with other bytes elsewhere.
+    fn passes<W: Packed + HexWord>(&self, call: Call, slot: usize) -> bool
+        requires { slot < slots W.width }
+    {
+        let (from, right) = match call {
+            Call::Encrypt => (&self.plaintext, &self.ciphertext),
+            Call::Decrypt => (&self.ciphertext, &self.plaintext),
         };
+        let at = 16 * slot;
+        let mut input = batch(0xa5);
+        input[at..at + 16].copy_from_slice(from);
+        let mut output = batch(0x5a);
+        let answer = any_key::crypt::<W>(
+            self.key.as_slice(),
+            call,
+            &input[..W::BATCH],
+            &mut output[..W::BATCH],
+        );
+        answer.is_ok() && output[at..at + 16] == right[..]
     }
-    checks(&mut key[0..n], line, number)
+
+    // How many of the four checks pass. The slot goes round with the record's number.
+    fn passed(&self, number: usize) -> usize
+        ensures { result ≤ 4 }
+    {
+        let checks = [
+            self.passes::<u32>(Call::Encrypt, number % 2),
+            self.passes::<u32>(Call::Decrypt, number % 2),
+            self.passes::<u64>(Call::Encrypt, number % 4),
+            self.passes::<u64>(Call::Decrypt, number % 4),
+        ];
+        checks.iter().filter(|passes| **passes).count()
+    }
+
+    // Whether the public calls refuse the key as zeros, at both widths.
+    fn refused(&self) -> bool {
+        let key = self.key.as_slice();
+        any_key::expand::<u32>(key) == Err(Refusal::ZeroKey)
+            && any_key::expand::<u64>(key) == Err(Refusal::ZeroKey)
+    }
 }
 
-fn report(
-    rt: &impl Print,
+// What the records gave so far: so many, the checks that passed, the keys refused, and the number, from 1, of the first record to fail.
+#[derive(Drop)]
+struct Tally {
     records: usize,
     passed: usize,
     zeros: usize,
-    failing: usize,
-) -> io::Result<()>
-    requires { records < 2 ^ 32 }
-{
-    hex_text::say_count(rt, b"records ", records)?;
-    hex_text::say_count(rt, b"\nchecks ", 4 * records)?;
-    hex_text::say_count(rt, b"\npassed ", passed)?;
-    hex_text::say_count(rt, b"\nkeys of zeros, refused by the public call ", zeros)?;
-    if failing > 0 {
-        hex_text::say_count(rt, b"\nfirst to fail: record ", failing)?;
-    }
-    hex_text::say(rt, b"\n")
+    failing: Option<usize>,
+    ghost four_each: { passed ≤ 4 * records },
+    ghost one_each: { zeros ≤ records },
 }
 
-fn all(rt: &impl Print, text: &[u8]) -> io::Result<()>
-    requires { length text.now ≤ 131072 }
-{
-    let mut records = 0;
-    let mut passed = 0;
-    let mut zeros = 0;
-    let mut failing = 0;
-    let mut at = 0;
-    while at < text.len() {
-        let end = hex_text::find(text, at, b'\n');
-        let found = record(&text[at..end], records);
-        records += 1;
-        passed += found.passed;
-        zeros += found.zeros;
-        if found.passed < 4 && failing == 0 {
-            failing = records;
+impl Tally {
+    fn of(text: &[u8]) -> Tally
+        requires { length text.now ≤ 131072 }
+        ensures { result.records ≤ length text.now }
+    {
+        let mut tally = Tally {
+            records: 0,
+            passed: 0,
+            zeros: 0,
+            failing: None,
+        };
+        for line in text.split_inclusive(|byte| *byte == b'\n') {
+            tally.count(line.strip_suffix(b"\n").unwrap_or(line));
         }
-        at = end + 1;
+        tally
     }
-    report(rt, records, passed, zeros, failing)
+
+    fn count(&mut self, line: &[u8])
+        requires { self.old.records < 131072 }
+        ensures { self.new.records ≡ self.old.records + 1 }
+    {
+        let (passed, refused) = match Record::parse(line) {
+            Some(record) => (record.passed(self.records), record.refused()),
+            None => (0, false),
+        };
+        self.records += 1;
+        self.passed += passed;
+        self.zeros += usize::from(refused);
+        if passed < 4 && self.failing.is_none() {
+            self.failing = Some(self.records);
+        }
+    }
+
+    fn report(&self, rt: &impl Print) -> io::Result<()>
+        requires { self.now.records < 2 ^ 32 }
+    {
+        println!(rt; "records {}", self.records)?;
+        println!(rt; "checks {}", 4 * self.records)?;
+        println!(rt; "passed {}", self.passed)?;
+        println!(rt; "keys of zeros, refused by the public call {}", self.zeros)?;
+        if let Some(record) = self.failing {
+            println!(rt; "first to fail: record {record}")?;
+        }
+        Ok(())
+    }
 }
 
 // Room for the input. A call, so that a goal says its result and not so many zeros.
@@ -152,5 +152,5 @@ fn room() -> [u8; 131072]
 fn main(rt: HostRuntime) -> io::Result<()> {
     let mut space = room();
     let n = hex_text::read_full(&mut rt.stdin(), &mut space)?;
-    all(&rt, &space[..n])
+    Tally::of(&space[..n]).report(&rt)
 }
