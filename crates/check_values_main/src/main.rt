@@ -2,80 +2,103 @@
 // goes through the public calls at both widths; how many values agreed is printed.
 #![tactic(auto)]
 
-mod w32;
-mod w64;
+ghost use Rattle.std.specs.Prelude.{◌≡◌, ◌+◌, ◌*◌, ◌^◌, ◌<◌, ◌≤◌};
 
-ghost use Rattle.std.specs.Prelude.{◌≤◌};
-
+use aes::refusal::Refusal;
+use below::{blank, words_for};
+use hex_text::Bytes;
+use hex_text::words::HexWord;
 use std::io;
+use word::packed::Packed;
 
-// 1 where the key has this check value at so many bits, else 0.
-fn agrees(bits: usize, key: &[u8], value: &[u8]) -> usize
-    ensures { result ≤ 1 }
-{
-    if bits == 32 && w32::checks(key, value) {
-        return 1;
-    }
-    if bits == 64 && w64::checks(key, value) {
-        return 1;
-    }
-    0
-}
-
-// How many of a record's two comparisons agree.
-fn record_by(key: &mut [u8], line: &[u8]) -> usize
-    ensures { result ≤ 2 }
-{
-    let digits = hex_text::field(line, 1);
-    if digits.len() != 6 {
-        return 0;
-    }
+// A key's check value by the public calls, over a word of either width.
+fn check_value<W: Packed + HexWord>(key: &[u8]) -> Result<[u8; 3], Refusal> {
+    let mut room = blank::<W>();
+    let schedule = &mut room[..words_for(key.len())];
+    aes::expand(key, schedule)?;
     let mut value = [0u8; 3];
-    hex_text::read(digits, &mut value);
-    hex_text::read(hex_text::field(line, 0), key);
-    agrees(32, key, &value) + agrees(64, key, &value)
+    aes::check_value(schedule, &mut value)?;
+    Ok(value)
 }
 
-fn record(line: &[u8]) -> usize
-    ensures { result ≤ 2 }
-{
-    let mut key = [0u8; 32];
-    let n = hex_text::field(line, 0).len() / 2;
-    if n > 32 {
-        return 0;
-    }
-    record_by(&mut key[0..n], line)
+#[derive(Drop)]
+struct Record {
+    key: Bytes<32>,
+    value: [u8; 3],
 }
 
-fn report(rt: &impl Print, keys: usize, agreed: usize, failing: usize) -> io::Result<()> {
-    hex_text::say_count(rt, b"keys ", keys)?;
-    hex_text::say_count(rt, b"\nvalues that agreed, two of a key ", agreed)?;
-    if failing > 0 {
-        hex_text::say_count(rt, b"\nfirst to differ: key ", failing)?;
-    }
-    hex_text::say(rt, b"\n")
-}
-
-fn all(rt: &impl Print, text: &[u8]) -> io::Result<()> {
-    let mut keys = 0;
-    let mut agreed = 0;
-    let mut failing = 0;
-    let mut at = 0;
-    while at < text.len() {
-        let end = hex_text::find(text, at, b'\n');
-        let found = record(&text[at..end]);
-        keys += 1;
-        agreed += found;
-        if found < 2 && failing == 0 {
-            failing = keys;
+impl Record {
+    // None where the key is longer than any, or the value is not of three bytes.
+    fn parse(line: &[u8]) -> Option<Record> {
+        let digits = hex_text::field(line, 1);
+        if digits.len() != 6 {
+            return None;
         }
-        at = end + 1;
+        Some(Record {
+            key: Bytes::read(hex_text::field(line, 0))?,
+            value: hex_text::array(digits),
+        })
     }
-    report(rt, keys, agreed, failing)
+
+    // At how many of the two widths the key has this check value.
+    fn agreed(&self) -> usize
+        ensures { result ≤ 2 }
+    {
+        let key = self.key.as_slice();
+        let values = [check_value::<u32>(key), check_value::<u64>(key)];
+        values
+            .iter()
+            .filter(|value| **value == Ok(self.value))
+            .count()
+    }
+}
+
+// What the records gave so far: so many keys, the values that agreed, and the number, from 1, of the first key to differ.
+#[derive(Drop)]
+struct Tally {
+    keys: usize,
+    agreed: usize,
+    failing: Option<usize>,
+    ghost two_each: { agreed ≤ 2 * keys },
+}
+
+impl Tally {
+    fn of(text: &[u8]) -> Tally {
+        let mut tally = Tally {
+            keys: 0,
+            agreed: 0,
+            failing: None,
+        };
+        for line in text.split_inclusive(|byte| *byte == b'\n') {
+            tally.count(line.strip_suffix(b"\n").unwrap_or(line));
+        }
+        tally
+    }
+
+    fn count(&mut self, line: &[u8])
+        requires { self.old.keys + 1 < 2 ^ 63 }
+        ensures { self.new.keys ≡ self.old.keys + 1 }
+    {
+        let agreed = Record::parse(line).map_or(0, |record| record.agreed());
+        self.keys += 1;
+        self.agreed += agreed;
+        if agreed < 2 && self.failing.is_none() {
+            self.failing = Some(self.keys);
+        }
+    }
+
+    fn report(&self, rt: &impl Print) -> io::Result<()> {
+        println!(rt; "keys {}", self.keys)?;
+        println!(rt; "values that agreed, two of a key {}", self.agreed)?;
+        if let Some(key) = self.failing {
+            println!(rt; "first to differ: key {key}")?;
+        }
+        Ok(())
+    }
 }
 
 fn main(rt: HostRuntime) -> io::Result<()> {
     let mut space = [0u8; 65536];
     let n = hex_text::read_full(&mut rt.stdin(), &mut space)?;
-    all(&rt, &space[..n])
+    Tally::of(&space[..n]).report(&rt)
 }
