@@ -1,146 +1,169 @@
-// One line for each public call, on buffers of the lengths that are given, which are the front of longer ones.
+// One line for each public call, over a word of either width, on buffers of the lengths that are given, which are the front of longer ones.
 ghost use Rattle.std.specs.Prelude.{◌≡◌, ◌≤◌, length};
 
-use crate::{w32, w64};
-use std::io;
+use aes::refusal::number;
+use hex_text::words::HexWord;
+use std::{fmt, io};
+use word::packed::Packed;
 
 // So many bytes x. A call, so that a goal says its result and not every byte.
 pub fn bytes(x: u8) -> [u8; 65570] {
     [x; 65570]
 }
 
-pub fn say_answer(rt: &impl Print, number: u32, kept: bool, apart: bool) -> io::Result<()> {
-    hex_text::say_count(rt, b" -> ", number as usize)?;
-    if !apart {
-        hex_text::say(rt, b" spilled\n")
-    } else if kept {
-        hex_text::say(rt, b" kept\n")
-    } else {
-        hex_text::say(rt, b" written\n")
+// Words that no call makes by chance.
+fn filled<W: Packed + HexWord>() -> [W; 122] {
+    [W::from_number(0x01234567); 122]
+}
+
+// What a call left of a buffer that it was lent, and of what lies past it.
+#[derive(Clone, Copy)]
+pub enum Left {
+    Kept,
+    Written,
+    Spilled,
+}
+
+impl Left {
+    // The buffer was the first n of these.
+    pub fn of<T: PartialEq>(space: &[T], before: &[T], n: usize) -> Left
+        requires { (n ≤ length space.now) × (n ≤ length before.now) }
+    {
+        if space[n..] != before[n..] {
+            Left::Spilled
+        } else if space[..n] == before[..n] {
+            Left::Kept
+        } else {
+            Left::Written
+        }
     }
 }
 
-// The buffer was the first n of these bytes, which were all 5a.
-fn say_bytes(rt: &impl Print, number: u32, space: &[u8], n: usize) -> io::Result<()>
-    requires { (length space.now ≡ 65570) × (n ≤ 65570) }
-{
-    let before = bytes(0x5a);
-    let kept = space[0..n] == before[0..n];
-    let apart = space[n..] == before[n..];
-    say_answer(rt, number, kept, apart)
+impl fmt::Display for Left {
+    fn fmt<W: fmt::Write>(&self, f: &mut fmt::Formatter<W>) -> fmt::Result {
+        match *self {
+            Left::Kept => write!(f, "kept"),
+            Left::Written => write!(f, "written"),
+            Left::Spilled => write!(f, "spilled"),
+        }
+    }
 }
 
 // So many bytes x as the key: of zeros that is told.
-fn say_key(rt: &impl Print, x: u8, key: usize) -> io::Result<()> {
-    if x == 0 {
-        hex_text::say_count(rt, b" zero key ", key)
-    } else {
-        hex_text::say_count(rt, b" key ", key)
+#[derive(Clone, Copy)]
+pub struct Key {
+    pub byte: u8,
+    pub len: usize,
+    ghost fits: { len ≤ 40 },
+}
+
+impl fmt::Display for Key {
+    fn fmt<W: fmt::Write>(&self, f: &mut fmt::Formatter<W>) -> fmt::Result {
+        let zero = if self.byte == 0 { "zero " } else { "" };
+        write!(f, "{zero}key {}", self.len)
     }
 }
 
-pub fn expand(rt: &impl Print, bits: usize, x: u8, key: usize, words: usize) -> io::Result<()>
-    requires { (key ≤ 40) × (words ≤ 121) }
+pub fn expand<W: Packed + HexWord>(rt: &impl Print, key: Key, words: usize) -> io::Result<()>
+    requires { words ≤ 121 }
 {
-    hex_text::say_count(rt, b"expand", bits)?;
-    say_key(rt, x, key)?;
-    hex_text::say_count(rt, b" schedule ", words)?;
-    if bits == 32 {
-        w32::expand(rt, x, key, words)
-    } else {
-        w64::expand(rt, x, key, words)
-    }
-}
-
-fn crypt_in(
-    space: &mut [u8],
-    bits: usize,
-    decrypts: bool,
-    words: usize,
-    input: usize,
-    output: usize,
-) -> u32
-    requires { (output ≤ length space.old) × (input ≤ 65552) × (words ≤ 121) }
-{
-    if bits == 32 {
-        w32::crypt(decrypts, words, input, &mut space[0..output])
-    } else {
-        w64::crypt(decrypts, words, input, &mut space[0..output])
-    }
-}
-
-pub fn crypt(
-    rt: &impl Print,
-    bits: usize,
-    decrypts: bool,
-    words: usize,
-    input: usize,
-    output: usize,
-) -> io::Result<()>
-    requires { (output ≤ 65568) × (input ≤ 65552) × (words ≤ 121) }
-{
-    if decrypts {
-        hex_text::say_count(rt, b"decrypt", bits)?;
-    } else {
-        hex_text::say_count(rt, b"encrypt", bits)?;
-    }
-    hex_text::say_count(rt, b" schedule ", words)?;
-    hex_text::say_count(rt, b" input ", input)?;
-    hex_text::say_count(rt, b" output ", output)?;
-    let mut space = bytes(0x5a);
-    let number = crypt_in(&mut space, bits, decrypts, words, input, output);
-    say_bytes(rt, number, &space, output)
-}
-
-fn check_in(space: &mut [u8], bits: usize, words: usize, output: usize) -> u32
-    requires { (output ≤ length space.old) × (words ≤ 121) }
-{
-    if bits == 32 {
-        w32::check_value(words, &mut space[0..output])
-    } else {
-        w64::check_value(words, &mut space[0..output])
-    }
-}
-
-pub fn check_value(rt: &impl Print, bits: usize, words: usize, output: usize) -> io::Result<()>
-    requires { (output ≤ 65) × (words ≤ 121) }
-{
-    hex_text::say_count(rt, b"check_value", bits)?;
-    hex_text::say_count(rt, b" schedule ", words)?;
-    hex_text::say_count(rt, b" output ", output)?;
-    let mut space = bytes(0x5a);
-    let number = check_in(&mut space, bits, words, output);
-    say_bytes(rt, number, &space, output)
-}
-
-fn door_in(space: &mut [u8], direction: u32, x: u8, key: usize, input: usize, output: usize) -> u32
-    requires { (output ≤ length space.old) × (input ≤ 65552) × (key ≤ 40) }
-{
-    let key_bytes = bytes(x);
-    let blocks = bytes(0x22);
-    host::locker_aes(
-        direction,
-        &key_bytes[0..key],
-        &blocks[0..input],
-        &mut space[0..output],
+    let bytes = bytes(key.byte);
+    let mut space = filled::<W>();
+    let answer = aes::expand(&bytes[..key.len], &mut space[..words]);
+    let left = Left::of(&space, &filled::<W>(), words);
+    println!(rt;
+        "expand{} {key} schedule {words} -> {} {left}",
+        W::BITS,
+        number(answer)
     )
 }
 
-pub fn door(
+#[derive(Clone, Copy)]
+pub enum Call {
+    Encrypt,
+    Decrypt,
+}
+
+impl fmt::Display for Call {
+    fn fmt<W: fmt::Write>(&self, f: &mut fmt::Formatter<W>) -> fmt::Result {
+        match *self {
+            Call::Encrypt => write!(f, "encrypt"),
+            Call::Decrypt => write!(f, "decrypt"),
+        }
+    }
+}
+
+// How many bytes are lent of blocks, and how many for what comes of them.
+#[derive(Clone, Copy)]
+pub struct Lent {
+    pub input: usize,
+    pub output: usize,
+    ghost fits: { (input ≤ 65552) × (output ≤ 65568) },
+}
+
+impl fmt::Display for Lent {
+    fn fmt<W: fmt::Write>(&self, f: &mut fmt::Formatter<W>) -> fmt::Result {
+        write!(f, "input {} output {}", self.input, self.output)
+    }
+}
+
+pub fn crypt<W: Packed + HexWord>(
     rt: &impl Print,
-    direction: u32,
-    x: u8,
-    key: usize,
-    input: usize,
+    call: Call,
+    words: usize,
+    lent: Lent,
+) -> io::Result<()>
+    requires { words ≤ 121 }
+{
+    let schedule = filled::<W>();
+    let blocks = bytes(0x22);
+    let mut space = bytes(0x5a);
+    let (schedule, input, output) = (
+        &schedule[..words],
+        &blocks[..lent.input],
+        &mut space[..lent.output],
+    );
+    let answer = match call {
+        Call::Encrypt => aes::encrypt(schedule, input, output),
+        Call::Decrypt => aes::decrypt(schedule, input, output),
+    };
+    let left = Left::of(&space, &bytes(0x5a), lent.output);
+    println!(rt;
+        "{call}{} schedule {words} {lent} -> {} {left}",
+        W::BITS,
+        number(answer)
+    )
+}
+
+pub fn check_value<W: Packed + HexWord>(
+    rt: &impl Print,
+    words: usize,
     output: usize,
 ) -> io::Result<()>
-    requires { (output ≤ 65568) × (input ≤ 65552) × (key ≤ 40) }
+    requires { (output ≤ 65) × (words ≤ 121) }
 {
-    hex_text::say_count(rt, b"locker_aes direction ", direction as usize)?;
-    say_key(rt, x, key)?;
-    hex_text::say_count(rt, b" input ", input)?;
-    hex_text::say_count(rt, b" output ", output)?;
+    let schedule = filled::<W>();
     let mut space = bytes(0x5a);
-    let number = door_in(&mut space, direction, x, key, input, output);
-    say_bytes(rt, number, &space, output)
+    let answer = aes::check_value(&schedule[..words], &mut space[..output]);
+    let left = Left::of(&space, &bytes(0x5a), output);
+    println!(rt;
+        "check_value{} schedule {words} output {output} -> {} {left}",
+        W::BITS,
+        number(answer)
+    )
+}
+
+// A call of the door.
+pub fn door(rt: &impl Print, direction: u32, key: Key, lent: Lent) -> io::Result<()> {
+    let bytes_of_key = bytes(key.byte);
+    let blocks = bytes(0x22);
+    let mut space = bytes(0x5a);
+    let number = host::locker_aes(
+        direction,
+        &bytes_of_key[..key.len],
+        &blocks[..lent.input],
+        &mut space[..lent.output],
+    );
+    let left = Left::of(&space, &bytes(0x5a), lent.output);
+    println!(rt; "locker_aes direction {direction} {key} {lent} -> {number} {left}")
 }
