@@ -2,60 +2,39 @@
 // tests/oracle/sample.sh made its input and has the format.
 #![tactic(auto)]
 
-mod w32;
-mod w64;
+mod from_digits;
 
-ghost use Rattle.std.specs.Prelude.{◌<◌};
+ghost use Rattle.std.specs.Prelude.{◌≡◌, ◌+◌, ◌^◌, ◌<◌, ◌≤◌};
 
+use hex_text::Bytes;
+use hex_text::words::HexWord;
 use std::io;
+use word::packed::Packed;
 
-// Whether a key, field 1, has the schedule of field 2.
-fn expands_by(key: &mut [u8], line: &[u8], wide: bool) -> bool {
-    hex_text::read(hex_text::field(line, 1), key);
-    let digits = hex_text::field(line, 2);
-    if wide {
-        w64::expands(key, digits)
-    } else {
-        w32::expands(key, digits)
-    }
+#[derive(Clone, Copy)]
+pub enum Call {
+    Encrypt,
+    Decrypt,
+    CheckValue,
 }
 
-fn expands(line: &[u8], wide: bool) -> bool {
-    let mut key = [0u8; 32];
-    let n = hex_text::field(line, 1).len() / 2;
-    if n > 32 {
-        return false;
-    }
-    expands_by(&mut key[0..n], line, wide)
+// The width of a record's words.
+#[derive(Clone, Copy)]
+enum Width {
+    W32,
+    W64,
 }
 
-// Call 0 encrypts, 1 decrypts, 2 is the key check value.
-fn call(wide: bool, digits: &[u8], which: usize, input: &[u8], output: &mut [u8]) -> u32 {
-    if wide {
-        w64::call(digits, which, input, output)
-    } else {
-        w32::call(digits, which, input, output)
-    }
-}
-
-// Whether a call answers 0 and writes what its field has. The schedule is field `at`, the input the next, and the answers follow.
-fn gives_by(
-    input: &mut [u8],
-    output: &mut [u8],
-    right: &mut [u8],
-    line: &[u8],
-    wide: bool,
-    at: usize,
-    which: usize,
-) -> bool
-    requires { (at < 3) × (which < 3) }
-{
-    hex_text::read(hex_text::field(line, at + 1), input);
-    hex_text::read(hex_text::field(line, at + 2 + which), right);
-    if call(wide, hex_text::field(line, at), which, input, output) != 0 {
-        return false;
-    }
-    output[..] == right[..]
+// The digits of a record's fields. Kinds A to D have no key.
+#[derive(Clone, Copy)]
+struct Record<'a> {
+    width: Width,
+    key: Option<&'a [u8]>,
+    schedule: &'a [u8],
+    input: &'a [u8],
+    encrypted: &'a [u8],
+    decrypted: &'a [u8],
+    check: &'a [u8],
 }
 
 // Room for a batch. A call, so that a goal says its result and not every byte.
@@ -63,80 +42,119 @@ fn batch() -> [u8; 64] {
     [0u8; 64]
 }
 
-fn gives(line: &[u8], wide: bool, at: usize, which: usize) -> bool
-    requires { (at < 3) × (which < 3) }
-{
-    let mut input = batch();
-    let mut output = batch();
-    let mut right = batch();
-    let m = hex_text::field(line, at + 1).len() / 2;
-    let n = hex_text::field(line, at + 2 + which).len() / 2;
-    if m > 64 {
-        return false;
+impl<'a> Record<'a> {
+    // None where the kind is none of these.
+    fn parse(line: &'a [u8]) -> Option<Record<'a>> {
+        let (width, at) = match *line.first()? {
+            b'a' | b'b' => (Width::W32, 2),
+            b'c' | b'd' => (Width::W64, 2),
+            b'A' | b'B' => (Width::W32, 1),
+            b'C' | b'D' => (Width::W64, 1),
+            _ => return None,
+        };
+        Some(Record {
+            width,
+            key: if at == 2 {
+                Some(hex_text::field(line, 1))
+            } else {
+                None
+            },
+            schedule: hex_text::field(line, at),
+            input: hex_text::field(line, at + 1),
+            encrypted: hex_text::field(line, at + 2),
+            decrypted: hex_text::field(line, at + 3),
+            check: hex_text::field(line, at + 4),
+        })
     }
-    if n > 64 {
-        return false;
-    }
-    gives_by(
-        &mut input[0..m],
-        &mut output[0..n],
-        &mut right[0..n],
-        line,
-        wide,
-        at,
-        which,
-    )
-}
 
-// Encryption, decryption and the key check value.
-fn all_three(line: &[u8], wide: bool, at: usize) -> bool
-    requires { at < 3 }
-{
-    gives(line, wide, at, 0) && gives(line, wide, at, 1) && gives(line, wide, at, 2)
-}
-
-fn agrees(line: &[u8]) -> bool {
-    if line.len() == 0 {
-        return false;
+    // Whether a key has the record's schedule; None where it is longer than any.
+    fn expands<W: Packed + HexWord>(&self, key: &[u8]) -> Option<bool> {
+        let key = Bytes::<32>::read(key)?;
+        Some(from_digits::expands::<W>(key.as_slice(), self.schedule))
     }
-    match line[0] {
-        b'a' | b'b' => expands(line, false) && all_three(line, false, 2),
-        b'c' | b'd' => expands(line, true) && all_three(line, true, 2),
-        b'A' | b'B' => all_three(line, false, 1),
-        b'C' | b'D' => all_three(line, true, 1),
-        _ => false,
-    }
-}
 
-fn report(rt: &impl Print, records: usize, agreed: usize, failing: usize) -> io::Result<()> {
-    hex_text::say_count(rt, b"records ", records)?;
-    hex_text::say_count(rt, b"\nagreed ", agreed)?;
-    if failing > 0 {
-        hex_text::say_count(rt, b"\nfirst to differ: record ", failing)?;
+    // Whether a call answers 0 and writes what the record has; None where that or the input is longer than a batch.
+    fn gives<W: Packed + HexWord>(&self, call: Call) -> Option<bool> {
+        let input = Bytes::<64>::read(self.input)?;
+        let right = Bytes::<64>::read(match call {
+            Call::Encrypt => self.encrypted,
+            Call::Decrypt => self.decrypted,
+            Call::CheckValue => self.check,
+        })?;
+        let mut space = batch();
+        let output = &mut space[..right.as_slice().len()];
+        let answer = from_digits::call::<W>(self.schedule, call, input.as_slice(), output);
+        Some(answer.is_ok() && output[..] == right.as_slice()[..])
     }
-    hex_text::say(rt, b"\n")
-}
 
-fn all(rt: &impl Print, text: &[u8]) -> io::Result<()> {
-    let mut records = 0;
-    let mut agreed = 0;
-    let mut failing = 0;
-    let mut at = 0;
-    while at < text.len() {
-        let end = hex_text::find(text, at, b'\n');
-        records += 1;
-        if agrees(&text[at..end]) {
-            agreed += 1;
-        } else if failing == 0 {
-            failing = records;
+    // Whether all that the record has is so.
+    fn agrees_over<W: Packed + HexWord>(&self) -> Option<bool> {
+        if let Some(key) = self.key {
+            if !self.expands::<W>(key)? {
+                return Some(false);
+            }
         }
-        at = end + 1;
+        Some(
+            self.gives::<W>(Call::Encrypt)?
+                && self.gives::<W>(Call::Decrypt)?
+                && self.gives::<W>(Call::CheckValue)?,
+        )
     }
-    report(rt, records, agreed, failing)
+
+    fn agrees(&self) -> Option<bool> {
+        match self.width {
+            Width::W32 => self.agrees_over::<u32>(),
+            Width::W64 => self.agrees_over::<u64>(),
+        }
+    }
+}
+
+// What the records gave so far: so many, those that agreed, and the number, from 1, of the first to differ.
+#[derive(Drop)]
+struct Tally {
+    records: usize,
+    agreed: usize,
+    failing: Option<usize>,
+    ghost one_each: { agreed ≤ records },
+}
+
+impl Tally {
+    fn of(text: &[u8]) -> Tally {
+        let mut tally = Tally {
+            records: 0,
+            agreed: 0,
+            failing: None,
+        };
+        for line in text.split_inclusive(|byte| *byte == b'\n') {
+            tally.count(line.strip_suffix(b"\n").unwrap_or(line));
+        }
+        tally
+    }
+
+    fn count(&mut self, line: &[u8])
+        requires { self.old.records + 1 < 2 ^ 63 }
+        ensures { self.new.records ≡ self.old.records + 1 }
+    {
+        self.records += 1;
+        if Record::parse(line).and_then(|record| record.agrees()) == Some(true) {
+            self.agreed += 1;
+        } else if self.failing.is_none() {
+            self.failing = Some(self.records);
+        }
+    }
+
+    fn report(&self, rt: &impl Print) -> io::Result<()> {
+        println!(rt; "records {}", self.records)?;
+        println!(rt; "agreed {}", self.agreed)?;
+        if let Some(record) = self.failing {
+            println!(rt; "first to differ: record {record}")?;
+        }
+        Ok(())
+    }
 }
 
 fn main(rt: HostRuntime) -> io::Result<()> {
     let mut space = [0u8; 65536];
     let n = hex_text::read_full(&mut rt.stdin(), &mut space)?;
-    all(&rt, &space[..n])
+    Tally::of(&space[..n]).report(&rt)
 }
