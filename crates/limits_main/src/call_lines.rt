@@ -7,7 +7,7 @@ use std::{fmt, io};
 use word::packed::Packed;
 
 // So many bytes x. A call, so that a goal says its result and not every byte.
-pub fn bytes(x: u8) -> [u8; 65570] {
+fn bytes(x: u8) -> [u8; 65570] {
     [x; 65570]
 }
 
@@ -18,7 +18,7 @@ fn filled<W: Packed + HexWord>() -> [W; 122] {
 
 // What a call left of a buffer that it was lent, and of what lies past it.
 #[derive(Clone, Copy)]
-pub enum Left {
+enum Left {
     Kept,
     Written,
     Spilled,
@@ -26,7 +26,7 @@ pub enum Left {
 
 impl Left {
     // The buffer was the first n of these.
-    pub fn of<T: PartialEq>(space: &[T], before: &[T], n: usize) -> Left
+    fn of<T: PartialEq>(space: &[T], before: &[T], n: usize) -> Left
         requires { (n ≤ length space.now) × (n ≤ length before.now) }
     {
         if space[n..] != before[n..] {
@@ -67,9 +67,9 @@ impl fmt::Display for Key {
 pub fn expand<W: Packed + HexWord>(rt: &impl Print, key: Key, words: usize) -> io::Result<()>
     requires { words ≤ 121 }
 {
-    let bytes = bytes(key.byte);
+    let secret = bytes(key.byte);
     let mut space = filled::<W>();
-    let answer = aes::expand(&bytes[..key.len], &mut space[..words]);
+    let answer = aes::expand(&secret[..key.len], &mut space[..words]);
     let left = Left::of(&space, &filled::<W>(), words);
     println!(rt;
         "expand{} {key} schedule {words} -> {} {left}",
@@ -115,14 +115,12 @@ pub fn crypt<W: Packed + HexWord>(
 ) -> io::Result<()>
     requires { words ≤ 121 }
 {
-    let schedule = filled::<W>();
+    let room = filled::<W>();
     let blocks = bytes(0x22);
     let mut space = bytes(0x5a);
-    let (schedule, input, output) = (
-        &schedule[..words],
-        &blocks[..lent.input],
-        &mut space[..lent.output],
-    );
+    let schedule = &room[..words];
+    let input = &blocks[..lent.input];
+    let output = &mut space[..lent.output];
     let answer = match call {
         Call::Encrypt => aes::encrypt(schedule, input, output),
         Call::Decrypt => aes::decrypt(schedule, input, output),
@@ -155,12 +153,12 @@ pub fn check_value<W: Packed + HexWord>(
 
 // A call of the door.
 pub fn door(rt: &impl Print, direction: u32, key: Key, lent: Lent) -> io::Result<()> {
-    let bytes_of_key = bytes(key.byte);
+    let secret = bytes(key.byte);
     let blocks = bytes(0x22);
     let mut space = bytes(0x5a);
     let number = host::locker_aes(
         direction,
-        &bytes_of_key[..key.len],
+        &secret[..key.len],
         &blocks[..lent.input],
         &mut space[..lent.output],
     );
