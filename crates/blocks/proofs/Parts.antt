@@ -87,14 +87,6 @@ module _ (w : Width) (f : ℕ → List ℕ → List ℕ) (i o : List ℕ) {ws : 
       ∙ sym (each_front w f (slots w * m) (take k i) (drop k i) enough)
       ∙ ap (each_block w f (slots w * m)) (take-append-drop k i)
 
-  -- where nothing is left, that is all
-  pub all_done : full ≡ length i → take 0 o ++ (ws ++ drop k (drop 0 o)) ≡ each_block w f (blocks_in i) i
-  all_done e =
-      ap (λ (l : List ℕ). ws ++ l) (drop_of_length-le o {i = k} (omega arith))
-      ∙ append-nil ws
-      ∙ front_done
-      ∙ ap (λ (x : ℕ). each_block w f x i) (sym (blocks_are (slots w * m) i (omega arith)))
-
   -- and else with the part that is left, vs being that part of the output
   pub rest_done : {vs : List ℕ} (l : ℕ) → l ≡ length i - full → length i % 16 ≡ 0 → length vs ≡ l
       → vs ≡ each_block w f (blocks_in (take l (drop full i))) (take l (drop full i))

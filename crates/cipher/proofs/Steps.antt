@@ -24,10 +24,6 @@ pub shifted_none : {w : Width} (n : ℕ) {s : List ℕ} → n ≡ 0 → Does w (
 unfolding rows_shifted
 shifted_none n e = rw e (record { each = λ b h. refl })
 
-pub unshifted_none : {w : Width} (n : ℕ) {s : List ℕ} → n ≡ 0 → Does w (all (rows_unshifted n)) s s
-unfolding rows_unshifted
-unshifted_none n e = rw e (record { each = λ b h. refl })
-
 -- round r with form i, and the same undone
 pub record Round (w : Width) (l : List ℕ) (r i : ℕ) (s v : List ℕ) : Type 0 where
   pub each : (b : ℕ) → b < slots w → slot w v b ≡ fix_round i (stored w l b r) (slot w s b)
@@ -90,9 +86,6 @@ module _ {w : Width} {l : List ℕ} {n r : ℕ} {s₀ s : List ℕ} (u : Upwards
 -- ---- downwards: rounds n to 1 are left to undo of s where m to 1 were of s₀
 pub record Left (w : Width) (l : List ℕ) (n m : ℕ) (s₀ s : List ℕ) : Type 0 where
   pub each : (b : ℕ) → b < slots w → undone_from (stored w l b) n (slot w s b) ≡ undone_from (stored w l b) m (slot w s₀ b)
-
-pub left_all : {w : Width} {l : List ℕ} {n : ℕ} {s : List ℕ} → Left w l n n s s
-left_all = record { each = λ b h. refl }
 
 -- one less: round r with form i
 pub left_less : {w : Width} {l : List ℕ} {r n m i : ℕ} {s₀ s v : List ℕ} → r ≡ n + 1 → r % 4 ≡ i → Left w l r m s₀ s → Unround w l r i s v → Left w l n m s₀ v

@@ -47,15 +47,6 @@ pack_law w l fit e b h = pack_slots w l fit b h ∙ sixteen_from_take l (16 * b)
     long w32 e b h = omega arith
     long w64 e b h = omega arith
 
--- the three layers of swaps as calls
-pub swaps_calls : (w : Width) (t : List ℕ) {k l m : List ℕ} → k ≡ on8 (swaps1 (words w) w) (λ p. get_or t p 0)
-    → l ≡ on8 (swaps2 (words w) w) (λ p. get_or k p 0)
-    → m ≡ on8 (swaps4 (words w) w) (λ p. get_or l p 0) → m ≡ swaps_program (words w) w (λ p. get_or t p 0)
-swaps_calls w t p q r =
-    r
-    ∙ ap (λ (l : List ℕ). on8 (swaps4 (words w) w) (λ p. get_or l p 0))
-    (q ∙ ap (λ (l : List ℕ). on8 (swaps2 (words w) w) (λ p. get_or l p 0)) p)
-
 -- delta_swap_2, where the words that it takes are known by equations
 pub swap_after : (w : Width) (n m : ℕ) {a b x y a' b' : ℕ} → (a ≡ a') × (b ≡ b')
     → (x ≡ upper (words w) w n m a b) × (y ≡ lower (words w) w n m a b) → (x ≡ upper (words w) w n m a' b') × (y ≡ lower (words w) w n m a' b')

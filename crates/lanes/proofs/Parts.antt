@@ -84,10 +84,6 @@ module _ (l : List ℕ) (at : ℕ) (ws : List ℕ) (h : at + 8 ≤ length l) (e 
   put_put vs =
       rw (take_at (take at l) (ws ++ drop 8 (drop at l)) at front, drop_at (take at l) (ws ++ drop 8 (drop at l)) at front, drop_at ws (drop 8 (drop at l)) 8 e)
 
--- loaded, worked on and stored: what the callee says of values is said of the words
-pub in_place : {w : Width} {f : ℕ → List ℕ → List ℕ} {before s r after : List ℕ} → s ≡ before → Does w f s r → after ≡ r → Does w f before after
-in_place {w} {f} loaded does stored = subst₂ (Does w f) loaded (sym stored) does
-
 -- a part lent, changed and given back: what the callee says of it is said of the whole
 pub changed : (w : Width) {f : ℕ → List ℕ → List ℕ} {l part ws : List ℕ} (at : ℕ) → at + 8 ≤ length l → length ws ≡ 8
     → part ≡ words_at l at → Does w f part ws → Changes w f at l (put l at ws)
@@ -97,12 +93,6 @@ changed w {f} {l} {part} {ws} at h e p d =
       here = subst₂ (Does w f) p (sym q) d;
       only = ap (put l at) (sym q);
     }
-
--- the same in the shape that the borrow checker hands back: the part was loaded, worked on and stored, k being at + 8 - at
-pub given_back : (w : Width) {f : ℕ → List ℕ → List ℕ} {l part s r : List ℕ} (at k : ℕ) → k ≡ 8 → at + 8 ≤ length l → length part ≡ 8
-    → s ≡ take k (drop at l) → part ≡ r → Does w f s r → Changes w f at l (take at l ++ (part ++ drop k (drop at l)))
-given_back w {f} {l} {part} at k e h g p q d =
-    subst (Changes w f at l) (sym (put_is l at k part e)) (changed w at h g (p ∙ part_is l at k e) (subst (Does w f _) (sym q) d))
 
 -- xor_columns, where the words of the key before are known by an equation
 pub key_is : (w : Width) (n : ℕ) {p q s r : List ℕ} → p ≡ q → Does w (next_key_of w n p) s r → Does w (next_key_of w n q) s r

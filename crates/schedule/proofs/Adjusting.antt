@@ -25,13 +25,6 @@ pub record AdjustedSo (w : Width) (f : ℕ → List ℕ → List ℕ) (end r : �
   pub done : Adjusted w f r l m
 
 module _ (w : Width) (f : ℕ → List ℕ → List ℕ) where
-  pub adjusted_none : {end : ℕ} {l : List ℕ} → 1 ≤ end → AdjustedSo w f end 1 l l
-  adjusted_none h = record {
-    some = omega arith;
-    few = h;
-    long = refl;
-    done = record { first = λ b h. refl; inner = λ b h r k. absurd (omega arith); outer = λ b h r k e. refl };
-  }
 
   adjusted_more : (r : ℕ) {l m m' : List ℕ} → 1 ≤ r → length m ≡ length l → Adjusted w f r l m → Changed w (all (f r)) (8 * r) m m' → Adjusted w f (r + 1) l m'
   adjusted_more r {l} {m} {m'} pos long t d = record {
@@ -66,9 +59,6 @@ written_inner n zero k h e = absurd (omega arith)
 written_inner n (suc r) k h e = rw (ne_eqb (suc r) n e) refl
 
 module _ {w : Width} {s t : List ℕ} where
-  pub shift_then_nots : (times : ℕ) {u : List ℕ} → Does w (all (rows_unshifted times)) s u → Does w (all add63) u t
-      → Does w (all (λ k. add63 (rows_unshifted times k))) s t
-  shift_then_nots times d d' = record { each = λ b k. d'.each b k ∙ ap add63 (d.each b k) }
 
   pub write_last : {r n : ℕ} → 1 ≤ r → r ≡ n → Does w (all add63) s t → Does w (all (write_key n r)) s t
   write_last {r} {n} pos e d = record { each = λ b k. d.each b k ∙ written_last n r _ pos e }

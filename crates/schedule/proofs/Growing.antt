@@ -116,22 +116,6 @@ module _ {m from j : ℕ} (t : Begins m from j) where
   pub begins_late : m ≤ from
   begins_late = two (λ (m : ℕ). from ≡ (j + 1) * m → m ≤ from) (λ e. omega arith) (λ e. omega arith) m t.some t.few t.begins
 
-  -- and the next one begins m keys later
-  pub begins_next : Begins m (from + m) (j + 1)
-  begins_next = record {
-    some = t.some;
-    few = t.few;
-    begins = two (λ (m : ℕ). from ≡ (j + 1) * m → from + m ≡ (j + 1 + 1) * m) (λ e. omega arith) (λ e. omega arith) m t.some t.few t.begins;
-  }
-
-  -- after ten constants, or seven, the schedule ends
-  pub begins_over : 10 ≤ j → 4 * m + 7 ≤ from
-  begins_over h = two (λ (m : ℕ). from ≡ (j + 1) * m → 4 * m + 7 ≤ from) (λ e. omega arith) (λ e. omega arith) m t.some t.few t.begins
-
--- the first of them
-pub begins_first : {m : ℕ} → 1 ≤ m → m ≤ 2 → Begins m m 0
-begins_first {m} some few = record { some = some; few = few; begins = two (λ (m : ℕ). m ≡ (0 + 1) * m) (omega arith) (omega arith) m some few }
-
 -- key p of them: the first has round constant j, and only AES-256 has a second
 keys_step : (w : Width) (m j from p : ℕ) {c n : ℕ} {key l l' : List ℕ} → Begins m from j → p < m → from + p < 4 * m + 7
     → length key ≡ 4 * (4 * m) → Follows m (from + p) (length l) → c ≡ step_constant j p → n ≡ step_rows p
