@@ -1,13 +1,14 @@
 -- Blocks cut after full batches: the slots start anew, so what is joined of the parts is what all of them become. And some blocks are the front of more.
 -- Once over the width, what each slot does, and the numbers of batches and blocks. Assumes nothing.
 use mathlib.Core.Path.{◌≡◌, refl, sym, ap, ap₂, ◌∙◌}
-use mathlib.Core.List.{List, ◌++◌, append_assoc}
+use mathlib.Core.List.{List, [], ◌++◌, append_assoc}
 use Prim.Native.Nat.{ℕ, zero, suc, ◌+◌, ◌-◌, ◌*◌, ◌/◌, ◌%◌, ◌≤◌, ◌<◌}
 use native.Mathlib.Nat.{mul-add-mod_self_left, mul-div_cancel_left}
 use native.Mathlib.Omega.{arith}
 use lib.Dec.{lit<}
-use lib.ListN.{take, drop, length, length-drop}
+use lib.ListN.{get_or, take, drop, length, length-drop}
 use lib.Seq.{take_at, take-append-le, drop-append-le, drop-drop}
+use Rattle.std.specs.Simd.{first_chunks}
 use Rattle.fips197.specs.Aes.{sixteen}
 use Rattle.lanes.specs.Layout.{Width, slots, join}
 use Rattle.lanes.specs.Schedule.{each_block, blocks_in}
@@ -94,3 +95,10 @@ module _ (w : Width) (f : ℕ → List ℕ → List ℕ) where
 pub alike_cut : (w : Width) (g : List ℕ → List ℕ) (a k : ℕ) (i : List ℕ)
     → each_block w (λ slot. g) (a + k) i ≡ each_block w (λ slot. g) a i ++ each_block w (λ slot. g) k (drop (16 * a) i)
 alike_cut w g a k i = cut w (λ slot. g) a k i (λ r. refl)
+
+-- ---- block i of the k that as_chunks gives
+pub chunk_at : (k i : ℕ) (xs : List ℕ) → i < k → get_or (first_chunks 16 k xs) i [] ≡ take 16 (drop (16 * i) xs)
+chunk_at zero i xs h = absurd (omega arith)
+chunk_at (suc k) zero xs h = refl
+chunk_at (suc k) (suc i) xs h =
+    chunk_at k i (drop 16 xs) (omega arith) ∙ ap (take 16) (drop-drop (16 * i) 16 xs ∙ ap (λ (n : ℕ). drop n xs) (omega arith))
