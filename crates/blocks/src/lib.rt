@@ -29,9 +29,9 @@ fn copy_blocks(from: &[u8], to: &mut [u8])
     requires { Copied (length from.now) (length to.old) }
     ensures { to.new ≡ from.now }
 {
-    for i in 0..from.len() / 16 {
+    for (i, block) in from.as_chunks::<16>().0.iter().enumerate() {
         let at = 16 * i;
-        copy16(load16(&from[at..at + 16]), &mut to[at..at + 16]);
+        copy16(*block, &mut to[at..at + 16]);
     }
 }
 
