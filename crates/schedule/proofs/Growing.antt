@@ -5,7 +5,7 @@ use mathlib.Core.List.{List}
 use Prim.Native.Nat.{ℕ, zero, suc, ◌+◌, ◌-◌, ◌*◌, ◌/◌, ◌≤◌, ◌<◌}
 use native.Mathlib.Decide.{dec_lt}
 use native.Mathlib.Omega.{arith}
-use lib.ListN.{get_or, take, drop, length}
+use lib.ListN.{get_or, length}
 use Rattle.fips197.specs.Aes.{sixteen, round_constants, key_words}
 use Rattle.fips197.proofs.Keys.{key_first}
 use Rattle.lanes.specs.Layout.{Width, slots, slot}
@@ -25,16 +25,15 @@ pub record LoadedSo (w : Width) (m i : ℕ) (key l₀ l : List ℕ) : Type 0 whe
 pub loaded_none : {w : Width} {m : ℕ} {key l : List ℕ} → LoadedSo w m 0 key l l
 loaded_none = record { few = omega arith; long = refl; done = record { at = λ b h r k. absurd (omega arith) } }
 
--- block i broadcast to s, and s stored: j is 16 * i + 16 - 16 * i
-pub loaded_more : (w : Width) (i j : ℕ) {m : ℕ} {key l₀ l l' : List ℕ} (s : List ℕ) → j ≡ 16 → i < m
-    → 8 * i + 8 ≤ length l → length l' ≡ length l → length s ≡ 8
-    → ((b : ℕ) → b < slots w → slot w s b ≡ take j (drop (16 * i) key)) → l' ≡ put l (8 * i) s → LoadedSo w m i key l₀ l
+-- block i broadcast to s, and s stored
+pub loaded_more : (w : Width) (i : ℕ) {m : ℕ} {key l₀ l l' : List ℕ} (s : List ℕ) → i < m → 8 * i + 8 ≤ length l → length l' ≡ length l → length s ≡ 8
+    → ((b : ℕ) → b < slots w → slot w s b ≡ sixteen key i) → l' ≡ put l (8 * i) s → LoadedSo w m i key l₀ l
     → LoadedSo w m (i + 1) key l₀ l'
-loaded_more w i j {key = key} {l₀} {l} {l'} s ej less fits long eight each kept t =
+loaded_more w i {key = key} {l₀} {l} {l'} s less fits long eight each kept t =
     record { few = omega arith; long = long ∙ t.long; done = record { at = λ b h r y. more b h r y (dec_lt r i) } }
   where
     d : Changed w (λ b x. sixteen key i) (8 * i) l l'
-    d = passed (8 * i) fits long eight refl (record { each = λ b h. each b h ∙ ap (λ (n : ℕ). take n (drop (16 * i) key)) ej }) kept
+    d = passed (8 * i) fits long eight refl (record { each = each }) kept
 
     more : (b : ℕ) → b < slots w → (r : ℕ) → r < i + 1 → Dec (r < i) → stored w l' b r ≡ sixteen key r
     more b h r y (yes z) = stored_before d b r (omega arith) ∙ t.done.at b h r z

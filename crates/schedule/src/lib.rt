@@ -2,7 +2,7 @@
 // (docs/SCOPE.md, "Reading a schedule").
 #![tactic(auto)]
 
-ghost use Rattle.std.specs.Prelude.{◌≡◌, ◌+◌, ◌*◌, ◌<◌, ◌≤◌, map, length};
+ghost use Rattle.std.specs.Prelude.{◌≡◌, ◌+◌, ◌*◌, ◌/◌, ◌<◌, ◌≤◌, map, length};
 ghost use Rattle.lanes.specs.Sizes.{key_size};
 ghost use Rattle.lanes.specs.Schedule.{add63, rows_unshifted, write_key, schedule_of};
 ghost use Rattle.lanes.specs.Leaves.{Does, all, Changes};
@@ -34,13 +34,13 @@ fn step_rows(p: usize) -> u32
     if p == 0 { 1 } else { 0 }
 }
 
-// The m blocks of the key, each into every slot of a round key.
-fn load_key<W: Packed>(rkeys: &mut [W], key: &[u8], m: usize)
-    requires { (length key.now ≡ 16 * m) × (8 * m ≤ length rkeys.old) }
-    ensures { Loaded W.width m key.now (map W.value rkeys.new) }
+// The blocks of the key, each into every slot of a round key.
+fn load_key<W: Packed>(rkeys: &mut [W], key: &[u8])
+    requires { 8 * (length key.now / 16) ≤ length rkeys.old }
+    ensures { Loaded W.width (length key.now / 16) key.now (map W.value rkeys.new) }
 {
-    for i in 0..m {
-        store(rkeys, 8 * i, broadcast(&key[16 * i..16 * i + 16]));
+    for (i, block) in key.as_chunks::<16>().0.iter().enumerate() {
+        store(rkeys, 8 * i, broadcast(block));
     }
 }
 
@@ -110,7 +110,7 @@ pub fn key_schedule<W: Packed>(key: &[u8], rkeys: &mut [W])
 {
     let m = key.len() / 16;
     let n = rkeys.len() / 8 - 1;
-    load_key(rkeys, key, m);
+    load_key(rkeys, key);
     expand_keys(rkeys, m);
     write_keys(rkeys, n);
 }

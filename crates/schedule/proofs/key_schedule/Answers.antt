@@ -18,7 +18,7 @@ overflow_sub-n g c = let words = (key_blocks _ _ c.requires).blocks.words in ome
 pub load_key-requires : goal.load_key-requires
 load_key-requires g c =
     let words = (key_blocks _ _ c.requires).blocks.words in
-    ((key_blocks _ _ c.requires).bytes, omega arith)
+    omega arith
 
 pub expand_keys-requires : goal.expand_keys-requires
 expand_keys-requires g c =
