@@ -21,7 +21,7 @@ loop-i-preserved c =
     let next : get_or c.as_chunks.result.0.now i [] ≡ take (16 * i + 16 - 16 * i) (drop (16 * i) from) =
     rw (chunks.front, k) (chunk_at (length from / 16) i from (omega (arith, chunks.front_len, c.loop-i-test.true))) in
     blocks_next from i (16 * i) (16 * i + 16 - 16 * i) (omega arith) k (omega (arith, k, chunks.front_len, c.loop-i-test.true))
-    c.requires.room (c.copy16.auto.part ∙ search rules) (c.copy16.ensures ∙ next) c.loop-i.invariant
+    c.requires.room (c.copy_halves.auto.part ∙ search rules) (c.copy_halves.ensures ∙ next) c.loop-i.invariant
 
 pub returns : goal.returns
 returns c =
