@@ -5,7 +5,6 @@ ghost use Rattle.std.specs.Prelude.{◌≡◌, ◌*◌, ◌%◌, ◌≤◌, map,
 ghost use Rattle.fips197.specs.Aes.{cipher};
 ghost use Rattle.lanes.specs.Layout.{slots};
 ghost use Rattle.lanes.specs.Schedule.{reading, crypted};
-ghost use Rattle.blocks.specs.Part.{Copied};
 
 use cipher::crypt_batches;
 use cipher::direction::{Crypt, Encrypt};
@@ -32,7 +31,8 @@ fn copy_halves(from: &[u8], part: &mut [u8])
 
 // Copies whole blocks.
 fn copy_blocks(from: &[u8], to: &mut [u8])
-    requires { Copied (length from.now) (length to.old) }
+    requires whole { length from.now % 16 ≡ 0 }
+    requires room { length to.old ≡ length from.now }
     ensures { to.new ≡ from.now }
 {
     for (i, block) in from.as_chunks::<16>().0.iter().enumerate() {

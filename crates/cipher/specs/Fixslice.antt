@@ -2,7 +2,7 @@
 -- k r is round key r as it stands in the schedule. proofs/Argument.antt says what they are in FIPS-197.
 use Rattle.std.specs.Prelude.{◌≡◌, List, ℕ, zero, suc, ◌+◌, ◌*◌, ◌%◌, ◌≤◌}
 use Rattle.fips197.specs.Aes.{add_round_key}
-use Rattle.lanes.specs.Layout.{Width, slots}
+use Rattle.lanes.specs.Layout.{Width}
 use Rattle.lanes.specs.Schedule.{stored}
 use Rattle.lanes.specs.Leaves.{bare_sub_bytes, inv_bare_sub_bytes, mix_form, inv_mix_form}
 
@@ -12,18 +12,6 @@ pub record Scheduled (n s : ℕ) : Type 0 where
   pub words : s ≡ 8 * n + 8
   pub even : n % 2 ≡ 0
   pub some : 2 ≤ n
-
--- and i bytes in are parts of q bytes, blocks or full batches, and o bytes out are as many
-pub record Whole (q n s i o : ℕ) : Type 0 where
-  pub schedule : Scheduled n s
-  pub whole : i % q ≡ 0
-  pub output : o ≡ i
-
--- and i bytes in and o bytes out are a full batch each
-pub record Ready (w : Width) (n s i o : ℕ) : Type 0 where
-  pub schedule : Scheduled n s
-  pub input : i ≡ 16 * slots w
-  pub output : o ≡ 16 * slots w
 
 -- ---- rounds
 -- one round of form i

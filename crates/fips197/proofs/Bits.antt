@@ -85,8 +85,3 @@ bit_cons_zero n b h = bit_zero (n * 2 + b) ∙ digits_mod n h
 pub bit_cons_suc : (k n b : ℕ) → b < 2 → bit (suc k) (n * 2 + b) ≡ bit k n
 bit_cons_suc k n b h = bit_suc k (n * 2 + b) ∙ ap (bit k) (digits_div n h)
 
--- `!x` is x xor all ones
-pub not_xor : (W x : ℕ) → x < 2 ^ W → (2 ^ W - 1) - x ≡ bit_xor x (2 ^ W - 1)
-not_xor W x h =
-    let m : bit_and x (2 ^ W - 1) ≡ x = and_mask x W ∙ mod-eq_of_lt h in
-    omega (arith, xor_add_and x (2 ^ W - 1), m)

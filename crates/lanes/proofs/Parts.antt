@@ -10,21 +10,6 @@ use Rattle.lanes.specs.Layout.{Width}
 use Rattle.lanes.specs.Schedule.{words_at}
 use Rattle.lanes.specs.Leaves.{Does, put, Changes, next_key_of}
 
--- ---- eight words as a value
-abbrev pub eight : List ℕ → List ℕ
-eight l = reads 0 8 l
-
-pub eight_is : (l : List ℕ) → length l ≡ 8 → eight l ≡ l
-eight_is l e = reads_all l 8 e
-
--- eight stores into a list of eight leave the stored words
-pub eight_stored : (l ws : List ℕ) → length l ≡ 8 → length ws ≡ 8 → sets l 0 (eight ws) ≡ ws
-eight_stored l ws e f =
-    sets-eq (eight ws) l 0 (omega arith)
-    ∙ ap (λ (t : List ℕ). eight ws ++ t) (drop_of_length-le l {i = 8} (omega arith))
-    ∙ append-nil (eight ws)
-    ∙ eight_is ws f
-
 -- two lists are equal, element by element
 infixr 60 ◌∷≡◌
 pub ◌∷≡◌ : {x y : ℕ} {xs ys : List ℕ} → x ≡ y → xs ≡ ys → x ∷ xs ≡ y ∷ ys
@@ -38,22 +23,9 @@ pub words_length : (l : List ℕ) (at : ℕ) → at + 8 ≤ length l → length 
 unfolding words_at
 words_length l at h = length-take-le 8 (drop at l) (omega (arith, length-drop at l))
 
--- what the borrow checker hands back, k being at + 8 - at
-pub put_is : (l : List ℕ) (at k : ℕ) (ws : List ℕ) → k ≡ 8 → take at l ++ (ws ++ drop k (drop at l)) ≡ put l at ws
-unfolding put
-put_is l at k ws e = rw e
-
-pub part_is : (l : List ℕ) (at k : ℕ) → k ≡ 8 → take k (drop at l) ≡ words_at l at
-unfolding words_at
-part_is l at k e = rw e
-
 module _ (l : List ℕ) (at : ℕ) (ws : List ℕ) (h : at + 8 ≤ length l) (e : length ws ≡ 8) where
   front : length (take at l) ≡ at
   front = length-take-le at l (omega arith)
-
-  pub put_length : length (put l at ws) ≡ length l
-  unfolding put
-  put_length = simp (length-append, length-drop) (omega (arith, front))
 
   pub at_put : words_at (put l at ws) at ≡ ws
   unfolding put words_at
