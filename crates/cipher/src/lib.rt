@@ -13,11 +13,7 @@ use schedule::Schedule;
 use word::packed::Packed;
 
 // Full batches, one after the other: in a loop round the round loop clang inlines the S-box (docs/SPEED.md).
-pub fn crypt_batches<C: Crypt, W: Packed>(
-    schedule: &Schedule<W>,
-    input: &[u8],
-    output: &mut [u8],
-)
+pub fn crypt_batches<C: Crypt, W: Packed>(schedule: &Schedule<W>, input: &[u8], output: &mut [u8])
     requires whole { length input.now % (16 * slots W.width) ≡ 0 }
     requires output { length output.old ≡ length input.now }
     ensures { output.new ≡ crypted C.crypt W.width schedule.now.rounds (map W.value schedule.now.words.now) input.now }

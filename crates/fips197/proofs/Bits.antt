@@ -1,12 +1,12 @@
 -- Laws of single bits: each operation on numbers is one on their bits, and numbers with the same bits are equal. Assumes nothing.
 use mathlib.Core.Path.{◌≡◌, refl, sym, ap, ap₂, ◌∙◌}
 use Prim.Native.Nat.{ℕ, zero, suc, ◌+◌, ◌-◌, ◌*◌, ◌/◌, ◌%◌, ◌^◌, ◌≤◌, ◌<◌}
-use native.Mathlib.Nat.{lt_of_lt_of_le, zero-lt-suc, mod-lt, mod-eq_of_lt, div-eq_of_lt, div-add-mod', div-one, not-suc-le-zero, le_of_suc-le-suc}
+use native.Mathlib.Nat.{lt_of_lt_of_le, zero-lt-suc, mod-lt, div-eq_of_lt, div-add-mod', div-one, not-suc-le-zero, le_of_suc-le-suc}
 use native.Mathlib.Numerals.{one-add}
 use native.Mathlib.Omega.{arith}
 use lib.Arith.{bin_ind, digits_div, digits_mod}
 use lib.Pow.{pow_mono, shr-shr, field, mod-mod-pow}
-use lib.Bits.{bit_xor, bit_and, bit_or, xor_shr, xor_mod, and_shr, and_mod, or_shr, or_mod, xor_add_and, and_mask}
+use lib.Bits.{bit_xor, bit_and, bit_or, xor_shr, xor_mod, and_shr, and_mod, or_shr, or_mod}
 use Rattle.fips197.specs.Aes.{bit}
 
 pub bit_lt : (k x : ℕ) → bit k x < 2
@@ -84,4 +84,3 @@ bit_cons_zero n b h = bit_zero (n * 2 + b) ∙ digits_mod n h
 
 pub bit_cons_suc : (k n b : ℕ) → b < 2 → bit (suc k) (n * 2 + b) ≡ bit k n
 bit_cons_suc k n b h = bit_suc k (n * 2 + b) ∙ ap (bit k) (digits_div n h)
-

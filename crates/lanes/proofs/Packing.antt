@@ -16,7 +16,7 @@ use Rattle.fips197.proofs.Blocks.{reads, reads_part, reads_all, block_is, fit_ap
 use Rattle.lanes.specs.Layout.{Width, w32, w64, bits, slots, row_width, quarter_row, place, lane, slot, lane_byte, pack, each_slot, join}
 use Rattle.lanes.specs.Schedule.{words_at, stored}
 use Rattle.lanes.specs.Leaves.{Packs, unpacked}
-use Rattle.lanes.specs.Programs.{words, on8, at, upper, lower, swaps1, swaps2, swaps4, swaps_program, load_program, broadcast_program, store_program}
+use Rattle.lanes.specs.Programs.{words, at, upper, lower, swaps_program, load_program, broadcast_program, store_program}
 use Rattle.lanes.proofs.Check.{narrow, related_words, gather_r, slot_r, law_of}
 
 -- ---- bitslice

@@ -1,11 +1,10 @@
 -- Laws of parts of eight words of a schedule, and of lists by their elements. Assumes nothing.
 use mathlib.Core.Path.{◌≡◌, refl, sym, ◌∙◌, ap, ap₂, subst, subst₂}
-use mathlib.Core.List.{List, [], ◌∷◌, ◌++◌, append_assoc, append-nil}
+use mathlib.Core.List.{List, [], ◌∷◌, ◌++◌, append_assoc}
 use Prim.Native.Nat.{ℕ, ◌+◌, ◌-◌, ◌≤◌}
 use native.Mathlib.Omega.{arith}
-use lib.ListN.{take, drop, length, length-append, length-drop, drop_of_length-le, take-append-drop}
-use lib.Seq.{drop-drop, take_at, drop_at, take-append-le, drop-append-le, length-take-le, sets, sets-eq}
-use Rattle.fips197.proofs.Blocks.{reads, reads_all}
+use lib.ListN.{take, drop, length, length-append, length-drop, take-append-drop}
+use lib.Seq.{drop-drop, take_at, drop_at, take-append-le, drop-append-le, length-take-le}
 use Rattle.lanes.specs.Layout.{Width}
 use Rattle.lanes.specs.Schedule.{words_at}
 use Rattle.lanes.specs.Leaves.{Does, put, Changes, next_key_of}

@@ -25,7 +25,6 @@ pub record AdjustedSo (w : Width) (f : ℕ → List ℕ → List ℕ) (end r : �
   pub done : Adjusted w f r l m
 
 module _ (w : Width) (f : ℕ → List ℕ → List ℕ) where
-
   adjusted_more : (r : ℕ) {l m m' : List ℕ} → 1 ≤ r → length m ≡ length l → Adjusted w f r l m → Changed w (all (f r)) (8 * r) m m' → Adjusted w f (r + 1) l m'
   adjusted_more r {l} {m} {m'} pos long t d = record {
     first = λ b h. stored_before d b 0 (omega arith) ∙ t.first b h;
@@ -59,7 +58,6 @@ written_inner n zero k h e = absurd (omega arith)
 written_inner n (suc r) k h e = rw (ne_eqb (suc r) n e) refl
 
 module _ {w : Width} {s t : List ℕ} where
-
   pub write_last : {r n : ℕ} → 1 ≤ r → r ≡ n → Does w (all add63) s t → Does w (all (write_key n r)) s t
   write_last {r} {n} pos e d = record { each = λ b k. d.each b k ∙ written_last n r _ pos e }
 
