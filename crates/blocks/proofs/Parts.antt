@@ -54,10 +54,12 @@ module _ (w : Width) {p ws : List ℕ} (z : List ℕ) (k : ℕ) (all : k ≡ len
   pub front_length : length (take 0 z ++ (ws ++ drop k (drop 0 z))) ≡ 16 * slots w
   front_length = simp (length-append, length-drop) (omega (arith, ap length copied))
 
-  -- it is a full batch
-  pub front_whole : length (take 0 z ++ (ws ++ drop k (drop 0 z))) % (16 * slots w) ≡ 0
-  front_whole = ap (λ (l : ℕ). l % (16 * slots w)) front_length ∙ one_batch w
+  -- it is a full batch, with as much room for what it becomes
+  pub front_ready : {o : ℕ} → o ≡ 16 * slots w
+      → (length (take 0 z ++ (ws ++ drop k (drop 0 z))) % (16 * slots w) ≡ 0) × (o ≡ length (take 0 z ++ (ws ++ drop k (drop 0 z))))
+  front_ready room = (ap (λ (l : ℕ). l % (16 * slots w)) front_length ∙ one_batch w, room ∙ sym front_length)
 
+  -- the first of what the batch becomes is what they become
   pub front_is : (f : ℕ → List ℕ → List ℕ) → ((b : ℕ) (x : List ℕ) → length (f b x) ≡ 16) → length p % 16 ≡ 0 → {out : List ℕ}
       → out ≡ each_block w f (blocks_in (take 0 z ++ (ws ++ drop k (drop 0 z)))) (take 0 z ++ (ws ++ drop k (drop 0 z)))
       → take k (drop 0 out) ≡ each_block w f (blocks_in p) p

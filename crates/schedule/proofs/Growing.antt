@@ -175,8 +175,9 @@ pub record AtStep (w : Width) (m from p : ℕ) (l₀ l : List ℕ) : Type 0 wher
   pub grown : Grown w (4 * m) from (from + p) l₀ l
 
 -- what a step asks for that does not begin at the end: the next key follows the m before it, and has room
-pub step_follows : {w : Width} {m from j p n₀ n₁ n : ℕ} {l₀ l₁ l : List ℕ} → AtConstant w m from j l₀ l₁ → AtStep w m from p l₁ l
-    → n₀ ≡ 8 * (4 * m + 7) → n₁ ≡ n₀ → n ≡ n₁ → from + p < n₀ / 8 → Follows m (from + p) n
-step_follows c s words e f there =
+pub step_follows : {w : Width} {m from j p : ℕ} {l₀ l₁ l : List ℕ} → AtConstant w m from j l₀ l₁ → AtStep w m from p l₁ l
+    → length l₀ ≡ 8 * (4 * m + 7) → from + p < length l₀ / 8 → Follows m (from + p) (length l)
+step_follows {m = m} {l = l} c s words there =
     let late = begins_late c.begins in
+    let long : length l ≡ 8 * (4 * m + 7) = s.grown.long ∙ c.grown.long ∙ words in
     record { some = c.begins.some; old = omega arith; room = omega arith }

@@ -56,9 +56,12 @@ module _ {w : Width} {f : ℕ → List ℕ → List ℕ} {at : ℕ} {l m : List 
   unfolding stored
   stored_here b h r e = rw e (d.change.here.each b h)
 
--- the words by what each is as a number
+-- words have room where their values have
 pub follows_map : {A : Type 0} {m r : ℕ} (v : A → ℕ) (l : List A) → Follows m r (length l) → Follows m r (length (map v l))
 follows_map v l f = record { some = f.some; old = f.old; room = omega (arith, f.room, length-map l v) }
+
+pub follows_of : {A : Type 0} {m r : ℕ} (v : A → ℕ) (l : List A) → Follows m r (length (map v l)) → Follows m r (length l)
+follows_of v l f = record { some = f.some; old = f.old; room = omega (arith, f.room, length-map l v) }
 
 -- ---- a step: the words copied, passed over and added to the key m before them are one write of round key r
 module _ (w : Width) (n m r : ℕ) {f : List ℕ → List ℕ} {l a b c : List ℕ} (follows : Follows m r (length l)) (copied-long : length a ≡ length l) where

@@ -1,22 +1,19 @@
 -- The blocks are at the front of a batch, and the front of what that becomes is copied out.
 use mathlib.Core.List.{map}
-use mathlib.Core.Path.{sym, ◌∙◌}
+use mathlib.Core.Path.{◌∙◌}
 use Prim.Native.Nat.{◌-◌}
 use native.Mathlib.Omega.{arith}
 use lib.ListN.{length}
 use Rattle.cipher.proofs.Batches.{reading_long}
-use Rattle.blocks.proofs.Parts.{front_length, front_whole, front_is}
+use Rattle.blocks.proofs.Parts.{front_ready, front_is}
 use Rattle.blocks.proofs.crypt_in.Goals as goal
 
 pub crypt_batches-requires : goal.crypt_batches-requires
 crypt_batches-requires g c =
-    let w = g.W.Word.width in
-    let z = c.args.batch.now in
     let k = length c.args.input.now - 0 in
-    record {
-      whole = front_whole w z k (omega arith) c.copy_blocks.ensures c.requires.batch c.requires.most;
-      output = c.requires.out ∙ sym (front_length w z k (omega arith) c.copy_blocks.ensures c.requires.batch c.requires.most);
-    }
+    let ready =
+    front_ready g.W.Word.width c.args.batch.now k (omega arith) c.copy_blocks.ensures c.requires.batch c.requires.most c.requires.out in
+    record { whole = ready.0; output = ready.1 }
 
 pub returns : goal.returns
 returns g c =
