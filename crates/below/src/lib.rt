@@ -30,7 +30,8 @@ fn inner<W: Packed>(key: &[u8], schedule: &mut [W]) -> Result<(), Refusal> {
     Ok(())
 }
 
-// Expands a key by the public call, and one of zeros, which that call must refuse, by the inner function. Whether all went so.
+// Expands a key by the public call, and one of zeros, which that call must refuse, by the inner function. Whether all went so: that a
+// call did not refuse, no refusal says.
 pub fn expands<W: Packed>(key: &[u8], schedule: &mut [W]) -> bool {
     let answer = expand(key, schedule);
     if zero_key(key) {

@@ -12,7 +12,8 @@ use direction::Crypt;
 use schedule::Schedule;
 use word::packed::Packed;
 
-// Full batches, one after the other: in a loop round the round loop clang inlines the S-box (docs/SPEED.md).
+// Full batches, one after the other: in a loop round the round loop clang inlines the S-box (docs/SPEED.md). (An index, since std does not say what a slice
+// has become behind chunks_exact_mut. Input and output are two slices: in one struct with both the answer would be hidden from the caller.)
 pub fn crypt_batches<C: Crypt, W: Packed>(schedule: &Schedule<W>, input: &[u8], output: &mut [u8])
     requires whole { length input.now % (16 * slots W.width) ≡ 0 }
     requires output { length output.old ≡ length input.now }

@@ -27,7 +27,8 @@ impl<'a, W: Word> Schedule<'a, W> {
     }
 
     // Rounds 1 to n - 1, four forms to a turn: ShiftRows is left out, and form i of MixColumns accounts for i of them. The loop is left from its
-    // middle, with the state before the key at offset 8n: after form 1 or, where n is a multiple of four, after form 3.
+    // middle, with the state before the key at offset 8n: after form 1 or, where n is a multiple of four, after form 3. (No `for` yields a value
+    // from its middle.)
     pub(crate) fn do_rounds(&self, first: [W; 8]) -> [W; 8]
         ensures { Does W.width (rounds_in W.width (map W.value self.now.words.now) (self.now.rounds - 1)) (map W.value first) (map W.value result) }
     {
@@ -54,6 +55,7 @@ impl<'a, W: Word> Schedule<'a, W> {
     }
 
     // Rounds n - 1 to 1 undone, the forms in the opposite order. The loop is entered at form 1 or, where n is a multiple of four, at form 3.
+    // (Two or four rounds to a turn: no step of a `for`.)
     pub(crate) fn undo_rounds(&self, first: [W; 8]) -> [W; 8]
         ensures { Does W.width (undone_in W.width (map W.value self.now.words.now) (self.now.rounds - 1)) (map W.value first) (map W.value result) }
     {

@@ -8,7 +8,7 @@ ghost use Rattle.std.specs.Prelude.{◌≡◌, ◌<◌, ◌≤◌, length, IfOk,
 use std::io::Read;
 use std::{fmt, io};
 
-// Reads until the space is full or the input ends, and says how many bytes came. std's `read_exact` refuses a shorter input.
+// Reads until the space is full or the input ends, and says how many bytes came. std's `read_exact` refuses a shorter input, and `read_to_end` needs the heap.
 pub fn read_full<R: Read>(input: &mut R, space: &mut [u8]) -> io::Result<usize>
     ensures { IfOk result (λ n. n ≤ length space.new) }
 {
@@ -23,7 +23,7 @@ pub fn read_full<R: Read>(input: &mut R, space: &mut [u8]) -> io::Result<usize>
     Ok(done)
 }
 
-// Field number k of a line, from 0, between single spaces; empty where the line has fewer.
+// Field number k of a line, from 0, between single spaces; empty where the line has fewer, as a field of no digits is read.
 pub fn field(line: &[u8], k: usize) -> &[u8] {
     line.split(|byte| *byte == b' ').nth(k).unwrap_or(b"")
 }

@@ -1,5 +1,6 @@
 // What C calls, by way of crate host_c: include/locker_aes.h declares these nine functions. The door makes its schedule inside and leaves nothing
-// of it behind; the others are thin and have the promise of the call they pass on.
+// of it behind; the others are thin and have the promise of the call they pass on. Refusals and directions are numbers here, and a call stands once
+// for each width and direction, because C reads and names them so.
 #![tactic(auto)]
 
 ghost use Rattle.std.specs.Prelude.{◌≡◌, ◌<◌, length, replicate};

@@ -1,4 +1,5 @@
-// The library that C links: include/locker_aes.h declares these nine functions, which are crate host's under the names that C calls.
+// The library that C links: include/locker_aes.h declares these nine functions, which are crate host's under the names that C calls:
+// so each stands by itself, with C's numbers.
 #![tactic(auto)]
 
 ghost use Rattle.std.specs.Prelude.{◌≡◌};

@@ -64,6 +64,7 @@ impl fmt::Display for Key {
     }
 }
 
+// (That there is room for the words stands at three functions: a type for one number that nothing else has would say no more.)
 pub fn expand<W: Packed + HexWord>(rt: &impl Print, key: Key, words: usize) -> io::Result<()>
     requires { words ≤ 121 }
 {

@@ -11,7 +11,8 @@ use utils::word::Word;
 use utils::{ror, ror_distance};
 
 // Every byte goes one row up and `form` columns to the left. The columns that pass the end of their row come round in it: a rotation by one
-// row less has them in their places, and the masks put the two together.
+// row less has them in their places, and the masks put the two together. (The form is a number, for the second rotation goes by twice it; each arm is a
+// function of the Rust's, and a constant chooses it.)
 fn first_rotate<W: Word>(x: W, form: u32) -> W
     requires { form < 4 }
     ensures { W.value result ≡ rotate (words W.width) W.width 1 form (W.value x) }

@@ -37,7 +37,8 @@ pub fn memshift32<W: Word>(rkeys: &mut [W], off: usize)
     store(rkeys, off + 8, s);
 }
 
-// One word of the next round key: `prev` of the key before, `cur` after the S-box pass, rotated by three columns and `rows` rows.
+// One word of the next round key: `prev` of the key before, `cur` after the S-box pass, rotated by three columns and `rows` rows. (A number of rows, as
+// ror_distance takes it, and no kind of step: a type of its own would be made a number again here.)
 fn xor_column<W: Word>(prev: W, cur: W, rows: u32) -> W
     requires { rows < 2 }
     ensures { W.value result ≡ column_word (words W.width) W.width rows (W.value prev) (W.value cur) }

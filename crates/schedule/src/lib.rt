@@ -90,7 +90,7 @@ fn write_key<W: Word>(rkey: [W; 8], times: usize) -> [W; 8]
     sub_bytes_nots(inv_shift_rows(rkey, times))
 }
 
-// Adjusts round keys 1 to n to the fixsliced format: key r by r mod 4 inverse row shifts, the last by none.
+// Adjusts round keys 1 to n, the number of rounds, to the fixsliced format: key r by r mod 4 inverse row shifts, the last by none.
 fn write_keys<W: Word>(rkeys: &mut [W], n: usize)
     requires { (1 ≤ n) × (8 * n + 8 ≤ length rkeys.old) }
     ensures { Adjusted W.width (write_key n) (n + 1) (map W.value rkeys.old) (map W.value rkeys.new) }

@@ -54,7 +54,7 @@ pub fn shift_rows<W: Word, const N: usize>(state: [W; 8]) -> [W; 8]
     ]
 }
 
-// Its inverse: four row shifts are none.
+// Its inverse: four row shifts are none. (How often goes by the round, so it is no constant.)
 #[inline(always)]
 pub fn inv_shift_rows<W: Word>(state: [W; 8], times: usize) -> [W; 8]
     requires { times < 4 }

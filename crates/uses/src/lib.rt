@@ -1,5 +1,5 @@
-// Functions over the calls of host, as a C program would write them. What they promise follows from the contracts of crate host and from nothing
-// else: a contract that lost its meaning would leave this crate unproved.
+// Functions over the calls of host, as a C program would write them: with C's numbers, and its names for each width. What they promise follows from the
+// contracts of crate host and from nothing else: a contract that lost its meaning would leave this crate unproved.
 #![tactic(auto)]
 
 pub mod by_schedule;

@@ -1,4 +1,5 @@
-// The four calls of host that go by a schedule, at the width of their words: the functions over them are written once.
+// The four calls of host that go by a schedule, at the width of their words: the functions over them are written once. Each impl stands by itself, since
+// host has a name for each width.
 #![tactic(auto)]
 
 ghost use Rattle.std.specs.Prelude.{◌≡◌, map};

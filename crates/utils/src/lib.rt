@@ -47,7 +47,7 @@ pub fn delta_swap_2<W: Word>(a: W, b: W, shift: u32, mask: W) -> (W, W)
     (a.xor(t), b.xor(t.shl(shift)))
 }
 
-// The eight words at an offset of a schedule as one value.
+// The eight words at an offset of a schedule as one value. (With the offset here no caller has a part with a length of its own to state.)
 pub fn load<W: Word>(rkeys: &[W], at: usize) -> [W; 8]
     requires { at + 8 ≤ length rkeys.now }
     ensures { map W.value result ≡ words_at (map W.value rkeys.now) at }

@@ -1,4 +1,5 @@
-// Words of 32 bits: two blocks in eight of them. A row has 8 bits, a column of it 2.
+// Words of 32 bits: two blocks in eight of them. A row has 8 bits, a column of it 2. (The methods stand for each width: the operators are each type's own,
+// and rt ci refuses an impl that a macro of this repository writes.)
 ghost use Rattle.std.specs.Prelude.{◌%◌, ◌^◌, refl};
 ghost use Rattle.std.proofs.Math.Nat.{mod-lt};
 ghost use Rattle.std.proofs.Math.Dec.{lit<};
