@@ -3,7 +3,7 @@
 
 pub mod words;
 
-ghost use Rattle.std.specs.Prelude.{◌≡◌, ◌<◌, ◌≤◌, length, IfOk, IfSome};
+ghost use Rattle.std.specs.Prelude.{◌≡◌, ◌<◌, ◌≤◌, ◌/◌, ◌↔◌, length, IfOk, IfSome, IsSome};
 
 use std::io::Read;
 use std::{fmt, io};
@@ -77,7 +77,9 @@ pub struct Bytes<const N: usize> {
 
 impl<const N: usize> Bytes<N> {
     // None where there are more.
-    pub fn read(digits: &[u8]) -> Option<Bytes<N>> {
+    pub fn read(digits: &[u8]) -> Option<Bytes<N>>
+        ensures { IsSome result ↔ (length digits.now / 2 ≤ N) }
+    {
         let len = digits.len() / 2;
         if len > N {
             return None;

@@ -1,5 +1,5 @@
 // Words of a schedule or a state as hex digits, the same at both widths.
-ghost use Rattle.std.specs.Prelude.{◌<◌, ◌≤◌, ℕ};
+ghost use Rattle.std.specs.Prelude.{◌≡◌, ◌<◌, ◌≤◌, ◌*◌, ◌%◌, ◌^◌, ℕ};
 ghost use Rattle.std.specs.Mem.{type_size};
 ghost use Rattle.std.proofs.Math.Dec.{lit<, lit≤};
 
@@ -11,10 +11,15 @@ pub trait HexWord: Copy + PartialEq {
 
     ghost DIGITS: { ℕ };
 
-    // The low digits of a number.
-    fn from_number(number: u64) -> Self;
+    // The number that it is.
+    ghost value: { Self → ℕ };
 
-    fn number(self) -> u64;
+    // The low digits of a number.
+    fn from_number(number: u64) -> Self
+        ensures { value result ≡ number % 2 ^ (4 * DIGITS) };
+
+    fn number(self) -> u64
+        ensures { result ≡ value self };
 
     ghost some_digits: { 0 < DIGITS };
 
@@ -26,6 +31,8 @@ impl HexWord for u32 {
     const DIGITS: usize = 8;
 
     ghost DIGITS = { 8 };
+
+    ghost value = { λ x. x };
 
     fn from_number(number: u64) -> u32 {
         (number % 0x1_0000_0000) as u32
@@ -44,6 +51,8 @@ impl HexWord for u64 {
     const DIGITS: usize = 16;
 
     ghost DIGITS = { 16 };
+
+    ghost value = { λ x. x };
 
     fn from_number(number: u64) -> u64 {
         number
