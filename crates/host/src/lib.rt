@@ -120,7 +120,7 @@ pub fn locker_aes_encrypt32(schedule: &[u32], input: &[u8], output: &mut [u8]) -
 pub fn locker_aes_decrypt32(schedule: &[u32], input: &[u8], output: &mut [u8]) -> u32
     ensures { answers result output.new ≡ decrypt_outcome w32 schedule.now input.now output.old }
 {
-    number(aes::decrypt(schedule, input, output))
+    number(aes::decrypt(schedule, input, output)) // 32 bits
 }
 
 pub fn locker_aes_check32(schedule: &[u32], output: &mut [u8]) -> u32
