@@ -94,7 +94,7 @@ pub fn expand<W: Packed>(key: &[u8], schedule: &mut [W]) -> Result<(), Refusal>
     Ok(())
 }
 
-// Blocks in either direction.
+// Blocks in either direction. (Input and output are C's two slices.)
 fn crypt<C: Crypt, W: Packed>(
     schedule: &[W],
     input: &[u8],

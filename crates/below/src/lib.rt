@@ -9,7 +9,7 @@ use aes::{expand, key_size, zero_key};
 use schedule::key_schedule;
 use word::packed::Packed;
 
-// The schedule's words for a key of so many bytes. Other lengths are the calls' to refuse.
+// The schedule's words for a key of so many bytes. Other lengths are the calls' to refuse. (Room is an array for either length, of which the front is lent.)
 pub fn words_for(key: usize) -> usize
     ensures { result ≤ 120 }
 {

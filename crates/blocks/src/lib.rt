@@ -41,11 +41,7 @@ fn copy_blocks(from: &[u8], to: &mut [u8])
     }
 }
 
-// A batch of zero bytes at the longer width. A call, so that a goal says its result and not every byte.
-fn zeros() -> [u8; 64] {
-    [0u8; 64]
-}
-
+// (What is asked of input and output stands at each function: in one struct with both the answer would be hidden from the caller.)
 // At most a batch, in a batch that is lent: the slots that are left hold zeros, and what becomes of these is dropped.
 fn crypt_in<C: Crypt, W: Packed>(
     schedule: &Schedule<W>,
@@ -66,15 +62,15 @@ fn crypt_in<C: Crypt, W: Packed>(
     copy_blocks(&out[0..input.len()], output);
 }
 
-// At most a batch, in one of its own.
+// At most a batch, in one of its own. (Of 64 bytes, of which the front is lent: an array's length cannot be W::BATCH.)
 fn crypt_part<C: Crypt, W: Packed>(schedule: &Schedule<W>, input: &[u8], output: &mut [u8])
     requires whole { length input.now % 16 ≡ 0 }
     requires most { length input.now ≤ 16 * slots W.width }
     requires output { length output.old ≡ length input.now }
     ensures { output.new ≡ crypted C.crypt W.width schedule.now.rounds (map W.value schedule.now.words.now) input.now }
 {
-    let mut batch = zeros();
-    let mut out = zeros();
+    let mut batch = [0u8; 64];
+    let mut out = [0u8; 64];
     crypt_in::<C, W>(
         schedule,
         input,
@@ -120,12 +116,12 @@ fn block_in<W: Packed>(
     *out[0..16].as_array().unwrap()
 }
 
-// One block under the round keys of slot 0, in a batch of its own.
+// One block under the round keys of slot 0, in a batch of its own, as in crypt_part.
 pub fn encrypt_block<W: Packed>(schedule: &Schedule<W>, block: [u8; 16]) -> [u8; 16]
     ensures { result ≡ cipher (reading W.width schedule.now.rounds (map W.value schedule.now.words.now) 0) block }
 {
-    let mut batch = zeros();
-    let mut out = zeros();
+    let mut batch = [0u8; 64];
+    let mut out = [0u8; 64];
     block_in(
         schedule,
         block,

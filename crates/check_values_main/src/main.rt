@@ -7,12 +7,11 @@ ghost use Rattle.std.specs.Prelude.{◌≡◌, ◌+◌, ◌*◌, ◌^◌, ◌<�
 use aes::refusal::Refusal;
 use below::{blank, words_for};
 use hex_text::Bytes;
-use hex_text::words::HexWord;
 use std::io;
 use word::packed::Packed;
 
 // A key's check value by the public calls, over a word of either width.
-fn check_value<W: Packed + HexWord>(key: &[u8]) -> Result<[u8; 3], Refusal> {
+fn check_value<W: Packed>(key: &[u8]) -> Result<[u8; 3], Refusal> {
     let mut room = blank::<W>();
     let schedule = &mut room[..words_for(key.len())];
     aes::expand(key, schedule)?;
@@ -98,6 +97,7 @@ impl Tally {
 }
 
 fn main(rt: HostRuntime) -> io::Result<()> {
+    // Room on the stack, of which the front is read: a program has no heap.
     let mut space = [0u8; 65536];
     let n = hex_text::read_full(&mut rt.stdin(), &mut space)?;
     Tally::of(&space[..n]).report(&rt)

@@ -26,7 +26,7 @@ pub trait Crypt {
     ghost long: { (key : List ℕ) (keys : List (List ℕ)) (block : List ℕ) → length (crypt (key ∷ keys) block) ≡ 16 };
 }
 
-// ShiftRows n times, n being even: what the rounds left out.
+// ShiftRows n times, n being even: what the rounds left out. (A switch, since n is known at run time only.)
 fn rows_left_out<W: Packed>(state: [W; 8], n: usize) -> [W; 8]
     requires { n % 2 ≡ 0 }
     ensures { Does W.width (all (rows_shifted (n % 4))) (map W.value state) (map W.value result) }

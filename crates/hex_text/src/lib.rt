@@ -39,7 +39,7 @@ fn digit(byte: u8) -> Option<u8>
     }
 }
 
-// The number that digits spell, up to sixteen of them; what is no digit counts as 0.
+// The number that digits spell, up to sixteen of them; what is no digit counts as 0. (`from_str_radix` takes a sign and upper case, and refuses all for one.)
 fn number(digits: &[u8]) -> u64 {
     digits.iter().fold(
         0,
@@ -67,7 +67,7 @@ pub fn array<const N: usize>(digits: &[u8]) -> [u8; N] {
     bytes
 }
 
-// As many bytes as digits have pairs, N at most.
+// As many bytes as digits have pairs, N at most. (Room and a length: a Vec asks for the heap, which the programs do not.)
 #[derive(Drop)]
 pub struct Bytes<const N: usize> {
     space: [u8; N],

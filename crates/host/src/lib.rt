@@ -40,7 +40,8 @@ fn burn(n: usize, at: usize) -> u64
     below
 }
 
-// The door behind its tests: the schedule is made in the words lent here, and used.
+// The door behind its tests: the schedule is made in the words lent here, and used. (C's number chose the direction; the rounds are of the key's size, of
+// which the words lent are the other half.)
 fn crypt_with(
     direction: Direction,
     key: &[u8],

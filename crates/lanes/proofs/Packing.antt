@@ -117,13 +117,6 @@ store_length w64 t b = refl
 
 -- the parts of a buffer, one slot after the other; x b are the bytes of slot b
 module _ (x : ℕ → List ℕ) (e : (b : ℕ) → length (x b) ≡ 16) (o : List ℕ) where
-  pub two_parts : length o ≡ 32 → {a b : List ℕ} → a ≡ x 0 → b ≡ x 1 → (o₁ : List ℕ) → o₁ ≡ a ++ drop 16 o
-      → take 16 o₁ ++ (b ++ drop 16 (drop 16 o₁)) ≡ join (each_slot w32 x)
-  two_parts n ea eb o₁ e₁ =
-      let f₁ : o₁ ≡ x 0 ++ drop 16 o = e₁ ∙ rw ea in
-      let z : drop 16 (drop 16 o) ≡ [] = drop_of_length-le (drop 16 o) {i = 16} (simp length-drop (omega arith)) in
-      rw (f₁, eb) (next_part (x 0) (drop 16 o) (x 1) 16 (e 0) ∙ rw z (append_assoc (x 0) (x 1) []))
-
   pub four_parts : length o ≡ 64 → {a b c d : List ℕ} → a ≡ x 0 → b ≡ x 1 → c ≡ x 2 → d ≡ x 3 → (o₁ o₂ o₃ : List ℕ)
       → o₁ ≡ a ++ drop 16 o → o₂ ≡ take 16 o₁ ++ (b ++ drop 16 (drop 16 o₁)) → o₃ ≡ take 32 o₂ ++ (c ++ drop 16 (drop 32 o₂))
       → take 48 o₃ ++ (d ++ drop 16 (drop 48 o₃)) ≡ join (each_slot w64 x)

@@ -25,7 +25,7 @@ enum Left {
 }
 
 impl Left {
-    // The buffer was the first n of these.
+    // The buffer was the first n of these: behind it is looked at too, so a slice of n would not do.
     fn of<T: PartialEq>(space: &[T], before: &[T], n: usize) -> Left
         requires { (n ≤ length space.now) × (n ≤ length before.now) }
     {
@@ -122,6 +122,7 @@ pub fn crypt<W: Packed + HexWord>(
     let schedule = &room[..words];
     let input = &blocks[..lent.input];
     let output = &mut space[..lent.output];
+    // The call comes from a table of all of them.
     let answer = match call {
         Call::Encrypt => aes::encrypt(schedule, input, output),
         Call::Decrypt => aes::decrypt(schedule, input, output),
@@ -152,7 +153,7 @@ pub fn check_value<W: Packed + HexWord>(
     )
 }
 
-// A call of the door.
+// A call of the door, with the number of a direction as C hands it in: two of those tried name none.
 pub fn door(rt: &impl Print, direction: u32, key: Key, lent: Lent) -> io::Result<()> {
     let secret = bytes(key.byte);
     let blocks = bytes(0x22);

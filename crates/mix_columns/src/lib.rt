@@ -11,8 +11,8 @@ use utils::word::Word;
 use utils::{ror, ror_distance};
 
 // Every byte goes one row up and `form` columns to the left. The columns that pass the end of their row come round in it: a rotation by one
-// row less has them in their places, and the masks put the two together. (The form is a number, for the second rotation goes by twice it; each arm is a
-// function of the Rust's, and a constant chooses it.)
+// row less has them in their places, and the masks put the two together. (The form is a parameter of the helpers and not of
+// their types: each of sixteen calls would read `first_rotate::<W, FORM>(a[0])`. Each arm is a function of the Rust's, and a constant chooses it.)
 fn first_rotate<W: Word>(x: W, form: u32) -> W
     requires { form < 4 }
     ensures { W.value result ≡ rotate (words W.width) W.width 1 form (W.value x) }
@@ -35,7 +35,7 @@ fn first_rotate<W: Word>(x: W, form: u32) -> W
     }
 }
 
-// Two rows up and twice `form` columns to the left, modulo four: none or two.
+// Two rows up and twice `form` columns to the left, modulo four: none or two. (Arms as above.)
 fn second_rotate<W: Word>(x: W, form: u32) -> W
     requires { form < 4 }
     ensures { W.value result ≡ rotate (words W.width) W.width 2 (2 * form % 4) (W.value x) }

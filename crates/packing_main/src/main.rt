@@ -27,6 +27,7 @@ fn all(rt: &impl Print, text: &[u8]) -> io::Result<()> {
 }
 
 fn main(rt: HostRuntime) -> io::Result<()> {
+    // Room on the stack, of which the front is read: a program has no heap.
     let mut space = [0u8; 4096];
     let n = hex_text::read_full(&mut rt.stdin(), &mut space)?;
     all(&rt, &space[..n])

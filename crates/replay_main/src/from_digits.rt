@@ -21,6 +21,7 @@ pub fn call<W: Packed + HexWord>(
 ) -> Result<(), Refusal> {
     let mut room = blank::<W>();
     let schedule = read(digits, &mut room).ok_or(Refusal::Schedule)?;
+    // The call comes from the record that was read.
     match call {
         Call::Encrypt => aes::encrypt(schedule, input, output),
         Call::Decrypt => aes::decrypt(schedule, input, output),

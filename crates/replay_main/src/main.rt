@@ -37,11 +37,6 @@ struct Record<'a> {
     check: &'a [u8],
 }
 
-// Room for a batch. A call, so that a goal says its result and not every byte.
-fn batch() -> [u8; 64] {
-    [0u8; 64]
-}
-
 impl<'a> Record<'a> {
     // None where the kind is none of these.
     fn parse(line: &'a [u8]) -> Option<Record<'a>> {
@@ -54,11 +49,7 @@ impl<'a> Record<'a> {
         };
         Some(Record {
             width,
-            key: if at == 2 {
-                Some(hex_text::field(line, 1))
-            } else {
-                None
-            },
+            key: (at == 2).then(|| hex_text::field(line, 1)),
             schedule: hex_text::field(line, at),
             input: hex_text::field(line, at + 1),
             encrypted: hex_text::field(line, at + 2),
@@ -81,7 +72,7 @@ impl<'a> Record<'a> {
             Call::Decrypt => self.decrypted,
             Call::CheckValue => self.check,
         })?;
-        let mut space = batch();
+        let mut space = [0u8; 64];
         let output = &mut space[..right.as_slice().len()];
         let answer = from_digits::call::<W>(self.schedule, call, input.as_slice(), output);
         Some(answer.is_ok() && output[..] == right.as_slice()[..])
@@ -154,6 +145,7 @@ impl Tally {
 }
 
 fn main(rt: HostRuntime) -> io::Result<()> {
+    // Room on the stack, of which the front is read: a program has no heap.
     let mut space = [0u8; 65536];
     let n = hex_text::read_full(&mut rt.stdin(), &mut space)?;
     Tally::of(&space[..n]).report(&rt)

@@ -27,7 +27,7 @@ pub fn add_round_key<W: Word>(state: [W; 8], rkey: [W; 8]) -> [W; 8]
     ]
 }
 
-// Copies the eight words at an offset to the eight after them; nothing else changes.
+// Copies the eight words at an offset to the eight after them; nothing else changes. (Offsets here and in xor_columns are the Rust's.)
 pub fn memshift32<W: Word>(rkeys: &mut [W], off: usize)
     requires { off + 16 ≤ length rkeys.old }
     ensures long { length rkeys.new ≡ length rkeys.old }

@@ -51,6 +51,7 @@ fn key_pass<W: Word>(rkey: [W; 8], constant: u8) -> [W; 8]
     add_round_constant(sub_bytes_nots(sub_bytes(rkey)), constant)
 }
 
+// (`rows` and `times` below are counts, as in round_keys and shift_rows.)
 // Round key r, from the one before it, whose last column is rotated by `rows`, and from the one m before it. A step without a constant adds 0.
 fn next_key<W: Word>(rkeys: &mut [W], r: usize, m: usize, constant: u8, rows: u32)
     requires { Follows m r (length rkeys.old) × (rows < 2) }
@@ -70,6 +71,7 @@ fn expand_keys<W: Word>(rkeys: &mut [W], m: usize)
     ensures { Grows W.width (4 * m) m (4 * m + 7) (map W.value rkeys.old) (map W.value rkeys.new) }
 {
     let end = rkeys.len() / 8;
+    // A count, since the steps of a constant and the keys they make go by it, and only the first step reads the constant.
     for rcon in 0..10 {
         for p in 0..m {
             let r = m * (rcon + 1) + p;
@@ -91,6 +93,7 @@ fn write_key<W: Word>(rkey: [W; 8], times: usize) -> [W; 8]
 }
 
 // Adjusts round keys 1 to n, the number of rounds, to the fixsliced format: key r by r mod 4 inverse row shifts, the last by none.
+// (An index: std does not say what a slice has become behind as_chunks_mut. n is twice named in the promise, so it is a parameter.)
 fn write_keys<W: Word>(rkeys: &mut [W], n: usize)
     requires { (1 ≤ n) × (8 * n + 8 ≤ length rkeys.old) }
     ensures { Adjusted W.width (write_key n) (n + 1) (map W.value rkeys.old) (map W.value rkeys.new) }

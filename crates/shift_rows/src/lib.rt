@@ -23,7 +23,7 @@ fn swap_twice<W: Word>(x: W, mask: W) -> W
     )
 }
 
-// ShiftRows N times on one word.
+// ShiftRows N times on one word. (N is a constant, so no switch is left when this is compiled.)
 fn shift_word<W: Word, const N: usize>(x: W) -> W
     requires { N < 4 }
     ensures { W.value result ≡ shift_word (words W.width) W.width N (W.value x) }

@@ -21,7 +21,7 @@ pub fn door_and_back(key: &[u8], input: &[u8], sealed: &mut [u8], opened: &mut [
     locker_aes(1, key, sealed, opened)
 }
 
-// Decrypts headers by the door: all of them in one call, and one of them alone.
+// Decrypts headers by the door: all of them in one call, and one of them alone. (A header is asked for by its number, as a C program would.)
 pub fn header_alone(
     key: &[u8],
     sealed: &[u8],

@@ -2,7 +2,7 @@
 // and rt ci refuses an impl that a macro of this repository writes.)
 ghost use Rattle.std.specs.Prelude.{◌%◌, ◌^◌, refl};
 ghost use Rattle.std.proofs.Math.Nat.{mod-lt};
-ghost use Rattle.std.proofs.Math.Dec.{lit<};
+ghost use Rattle.std.proofs.Math.Dec.{lit<, lit≤};
 ghost use Rattle.lanes.specs.Layout.{w32};
 
 use super::word::Word;
@@ -45,20 +45,20 @@ impl Word for u32 {
     }
 
     fn pack_rows(r0: u8, r1: u8, r2: u8, r3: u8) -> u32 {
-        (r0 as u32) + (r1 as u32) * 0x100 + (r2 as u32) * 0x10000 + (r3 as u32) * 0x1000000
+        u32::from_le_bytes([r0, r1, r2, r3])
     }
 
     fn uniform_row(byte: u8) -> u32 {
-        (byte as u32) * 0x01010101
+        u32::from_le_bytes([byte; 4])
     }
 
     fn byte_repeat(byte: u8) -> u32 {
-        (byte as u32) * 0x01010101
+        u32::from_le_bytes([byte; 4])
     }
 
     ghost bits_is = { refl };
 
     ghost fits = { λ x. mod-lt x (lit< tt) };
 
-    ghost small = { lit< tt };
+    ghost small = { lit≤ tt };
 }

@@ -1,7 +1,7 @@
 // Words of 64 bits: four blocks in eight of them. A row has 16 bits, a column of it 4.
 ghost use Rattle.std.specs.Prelude.{◌≡◌, ◌<◌, ◌%◌, ◌^◌, refl};
 ghost use Rattle.std.proofs.Math.Nat.{mod-lt};
-ghost use Rattle.std.proofs.Math.Dec.{lit<};
+ghost use Rattle.std.proofs.Math.Dec.{lit<, lit≤};
 ghost use Rattle.lanes.specs.Layout.{w64};
 ghost use Rattle.lanes.specs.Masks.{double_bits};
 
@@ -56,14 +56,14 @@ impl Word for u64 {
     }
 
     fn byte_repeat(byte: u8) -> u64 {
-        (byte as u64) * 0x0101010101010101
+        u64::from_le_bytes([byte; 8])
     }
 
     ghost bits_is = { refl };
 
     ghost fits = { λ x. mod-lt x (lit< tt) };
 
-    ghost small = { lit< tt };
+    ghost small = { lit≤ tt };
 }
 
 // Bit i becomes bits 2i and 2i + 1: the bits are spread to the even places in three steps, and each is then doubled.

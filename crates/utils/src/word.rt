@@ -1,5 +1,5 @@
 // What the leaves ask of a word, as the Rust's trait Word does: they are written once, over any word, and used at u32 and u64.
-ghost use Rattle.std.specs.Prelude.{◌≡◌, ◌<◌, ◌-◌, ◌*◌, ◌^◌, ℕ};
+ghost use Rattle.std.specs.Prelude.{◌≡◌, ◌<◌, ◌≤◌, ◌-◌, ◌*◌, ◌^◌, ℕ};
 ghost use Rattle.std.specs.Mem.{type_size};
 ghost use Rattle.std.specs.Int.Bits.{bit_xor, bit_and, bit_or};
 ghost use Rattle.lanes.specs.Layout.{Width, bits};
@@ -59,5 +59,5 @@ pub trait Word: Copy {
     ghost fits: { (x : Self) → value x < 2 ^ bits width };
 
     // Eight fit in memory, which a generic function that has a state in a variable has to know.
-    ghost small: { 8 * type_size Self.row < 2 ^ 63 };
+    ghost small: { type_size Self.row ≤ 8 };
 }

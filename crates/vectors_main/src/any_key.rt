@@ -2,10 +2,9 @@
 use crate::Call;
 use aes::refusal::Refusal;
 use below::{blank, expands, words_for};
-use hex_text::words::HexWord;
 use word::packed::Packed;
 
-pub fn crypt<W: Packed + HexWord>(
+pub fn crypt<W: Packed>(
     key: &[u8],
     call: Call,
     input: &[u8],
@@ -14,8 +13,9 @@ pub fn crypt<W: Packed + HexWord>(
     let mut room = blank::<W>();
     let schedule = &mut room[..words_for(key.len())];
     if !expands(key, schedule) {
-        return Err(Refusal::Key);
+        return Err(Refusal::Key); // stands for whatever expands refused
     }
+    // The call comes from the record that was read.
     match call {
         Call::Encrypt => aes::encrypt(schedule, input, output),
         Call::Decrypt => aes::decrypt(schedule, input, output),
@@ -23,7 +23,7 @@ pub fn crypt<W: Packed + HexWord>(
 }
 
 // What the public call answers for a key.
-pub fn expand<W: Packed + HexWord>(key: &[u8]) -> Result<(), Refusal> {
+pub fn expand<W: Packed>(key: &[u8]) -> Result<(), Refusal> {
     let mut room = blank::<W>();
     aes::expand(key, &mut room[..words_for(key.len())])
 }

@@ -10,7 +10,6 @@ ghost use Rattle.lanes.specs.Layout.{slots};
 
 use aes::refusal::Refusal;
 use hex_text::Bytes;
-use hex_text::words::HexWord;
 use std::io;
 use word::packed::Packed;
 
@@ -18,11 +17,6 @@ use word::packed::Packed;
 pub enum Call {
     Encrypt,
     Decrypt,
-}
-
-// A batch of bytes x. A call, so that a goal says its result and not every byte.
-fn batch(x: u8) -> [u8; 64] {
-    [x; 64]
 }
 
 #[derive(Drop)]
@@ -43,7 +37,7 @@ impl Record {
     }
 
     // Whether one block comes out as the other, in a slot of a batch with other bytes elsewhere.
-    fn passes<W: Packed + HexWord>(&self, call: Call, slot: usize) -> bool
+    fn passes<W: Packed>(&self, call: Call, slot: usize) -> bool
         requires { slot < slots W.width }
     {
         let (from, right) = match call {
@@ -51,9 +45,9 @@ impl Record {
             Call::Decrypt => (&self.ciphertext, &self.plaintext),
         };
         let at = 16 * slot;
-        let mut input = batch(0xa5);
+        let mut input = [0xa5u8; 64];
         input[at..at + 16].copy_from_slice(from);
-        let mut output = batch(0x5a);
+        let mut output = [0x5au8; 64];
         let answer = any_key::crypt::<W>(
             self.key.as_slice(),
             call,
@@ -142,15 +136,9 @@ impl Tally {
     }
 }
 
-// Room for the input. A call, so that a goal says its result and not so many zeros.
-fn room() -> [u8; 131072]
-    ensures { 131072 ≡ length result }
-{
-    [0u8; 131072]
-}
-
 fn main(rt: HostRuntime) -> io::Result<()> {
-    let mut space = room();
+    // Room on the stack, of which the front is read: a program has no heap.
+    let mut space = [0u8; 131072];
     let n = hex_text::read_full(&mut rt.stdin(), &mut space)?;
     Tally::of(&space[..n]).report(&rt)
 }

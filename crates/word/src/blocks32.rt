@@ -47,15 +47,15 @@ impl Packed for u32 {
     ghost batch_is = { refl };
 }
 
-// A column of a block.
+// A column of a block. (Its place is handed in: eight slices in load_blocks would each have the place twice.)
 fn read_column(input: &[u8], at: usize) -> u32
     requires { at + 4 ≤ length input.now }
     ensures { result ≡ load_word (words w32) w32 (λ i. get_or input.now i 0) at }
 {
-    u32::from_le_bytes([input[at], input[at + 1], input[at + 2], input[at + 3]])
+    u32::from_le_bytes(*input[at..at + 4].as_array().unwrap())
 }
 
-// The bytes of a block from its four words.
+// The bytes of a block from its four words. (No method of std joins arrays without the heap.)
 fn block_bytes(a: u32, b: u32, c: u32, d: u32) -> [u8; 16]
     ensures { result ≡ block_bytes (words w32) w32 (λ p. get_or (a ∷ b ∷ c ∷ d ∷ []) p 0) }
 {

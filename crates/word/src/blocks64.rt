@@ -50,7 +50,7 @@ impl Packed for u64 {
     ghost batch_is = { refl };
 }
 
-// Half a block.
+// Half a block. (At a place, as in blocks32. By `as_array` in place of eight bytes the proof stays open: tried.)
 fn read_half(input: &[u8], at: usize) -> u64
     requires { at + 8 ≤ length input.now }
     ensures { result ≡ load_word (words w64) w64 (λ i. get_or input.now i 0) at }

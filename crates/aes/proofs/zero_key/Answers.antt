@@ -3,9 +3,6 @@ use borrow.Author.Rules.{rules}
 use Rattle.aes.proofs.Joined.{joined_none, joined_more, joined_all}
 use Rattle.aes.proofs.zero_key.Goals as goal
 
-pub loop-byte-init : goal.loop-byte-init
-loop-byte-init c = joined_none _
-
 pub loop-byte-preserved : goal.loop-byte-preserved
 loop-byte-preserved c = joined_more _ _ _ (search rules) c.loop-byte.invariant
 

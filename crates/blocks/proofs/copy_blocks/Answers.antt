@@ -9,9 +9,6 @@ use Rattle.lanes.proofs.Cuts.{chunk_at}
 use Rattle.blocks.proofs.Parts.{blocks_none, blocks_next, blocks_all}
 use Rattle.blocks.proofs.copy_blocks.Goals as goal
 
-pub loop-i-init : goal.loop-i-init
-loop-i-init c = blocks_none _
-
 pub loop-i-preserved : goal.loop-i-preserved
 loop-i-preserved c =
     let i = c.loop-i.i in
@@ -22,9 +19,3 @@ loop-i-preserved c =
     rw (chunks.front, k) (chunk_at (length from / 16) i from (omega (arith, chunks.front_len, c.loop-i-test.true))) in
     blocks_next from i (16 * i) (16 * i + 16 - 16 * i) (omega arith) k (omega (arith, k, chunks.front_len, c.loop-i-test.true))
     c.requires.room (c.copy_halves.auto.part ∙ search rules) (c.copy_halves.ensures ∙ next) c.loop-i.invariant
-
-pub returns : goal.returns
-returns c =
-    let all : length c.args.from.now ≡ 16 * c.loop-i.i =
-    omega (arith, c.requires.whole, c.as_chunks.ensures.front_len, c.loop-i.invariant.few, c.loop-i-test.false) in
-    blocks_all c.args.from.now c.loop-i.i all c.requires.room c.loop-i.invariant

@@ -8,13 +8,6 @@ use Rattle.cipher.proofs.Batches.{reading_long}
 use Rattle.blocks.proofs.Parts.{front_ready, front_is}
 use Rattle.blocks.proofs.crypt_in.Goals as goal
 
-pub crypt_batches-requires : goal.crypt_batches-requires
-crypt_batches-requires g c =
-    let k = length c.args.input.now - 0 in
-    let ready =
-    front_ready g.W.Word.width c.args.batch.now k (omega arith) c.copy_blocks.ensures c.requires.batch c.requires.most c.requires.out in
-    record { whole = ready.0; output = ready.1 }
-
 pub returns : goal.returns
 returns g c =
     let w = g.W.Word.width in

@@ -3,9 +3,6 @@ use borrow.Author.Rules.{rules}
 use Rattle.cmac.proofs.Summing.{summed_none, summed_more, summed_all}
 use Rattle.cmac.proofs.xor.Goals as goal
 
-pub loop-i-init : goal.loop-i-init
-loop-i-init c = summed_none _ _ (search rules)
-
 pub loop-i-preserved : goal.loop-i-preserved
 loop-i-preserved c = summed_more _ (search rules) c.loop-i.invariant
 

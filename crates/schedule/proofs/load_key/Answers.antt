@@ -10,9 +10,6 @@ use Rattle.lanes.proofs.Cuts.{chunk_at}
 use Rattle.schedule.proofs.Growing.{loaded_none, loaded_more, loaded_all}
 use Rattle.schedule.proofs.load_key.Goals as goal
 
-pub loop-i-init : goal.loop-i-init
-loop-i-init g c = loaded_none
-
 pub loop-i-preserved : goal.loop-i-preserved
 loop-i-preserved g c =
     let i = c.loop-i.i in
@@ -26,6 +23,3 @@ loop-i-preserved g c =
     (omega (arith, chunks.front_len, c.loop-i-test.true)) (omega (arith, before, chunks.front_len, c.loop-i-test.true, c.requires, c.loop-i.auto.rkeys))
     (length-map c.store.new.rkeys v ∙ c.store.ensures.long ∙ sym before) (length-map c.broadcast.result v ∙ search rules)
     (λ b h. c.broadcast.ensures b h ∙ block) c.store.ensures.put c.loop-i.invariant
-
-pub returns : goal.returns
-returns g c = loaded_all (omega (arith, c.as_chunks.ensures.front_len, c.loop-i-test.false)) c.loop-i.invariant

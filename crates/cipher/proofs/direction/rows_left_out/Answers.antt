@@ -5,8 +5,5 @@ use Rattle.lanes.proofs.Calls.{numbered}
 use Rattle.cipher.proofs.Steps.{shifted_none}
 use Rattle.cipher.proofs.direction.rows_left_out.Goals as goal
 
-pub returns-then-n-eq2 : goal.returns-then-n-eq2
-returns-then-n-eq2 g c = numbered rows_shifted c.if-n-eq2.true c.shift_rows.ensures
-
 pub returns-else-n-eq2 : goal.returns-else-n-eq2
 returns-else-n-eq2 g c = shifted_none _ (omega arith)
