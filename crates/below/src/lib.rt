@@ -16,7 +16,7 @@ pub fn words_for(key: usize) -> usize
     if key == 16 { 88 } else { 120 }
 }
 
-// Room for the longest schedule. A call, so that a goal says its result and not 120 zeros.
+// Room for the longest schedule, whose front is lent: an array's length cannot go by a key. A call, so that a goal says its result and not 120 zeros.
 pub fn blank<W: Packed>() -> [W; 120] {
     [W::byte_repeat(0); 120]
 }

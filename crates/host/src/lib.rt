@@ -16,7 +16,7 @@ use cipher::direction::{Decrypt, Encrypt};
 use cipher::schedule::Schedule;
 use schedule::key_schedule;
 
-// Room for the longest schedule. A call, so that a goal says its result and not 120 zeros.
+// Room for the longest schedule, whose front is lent: an array's length cannot go by a key. A call, so that a goal says its result and not 120 zeros.
 fn blank() -> [u64; 120]
     ensures { result ≡ replicate 120 0 }
 {

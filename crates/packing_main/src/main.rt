@@ -12,6 +12,7 @@ fn one(rt: &impl Print, line: &[u8]) -> io::Result<()> {
     rt.write_all(line)?;
     println!(rt)?;
     let digits = hex_text::field(line, 1);
+    // The number of digits is all that the file says of the width.
     match digits.len() {
         64 => both_ways::<u32>(rt, digits),
         128 => both_ways::<u64>(rt, digits),

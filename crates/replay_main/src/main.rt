@@ -38,7 +38,7 @@ struct Record<'a> {
 }
 
 impl<'a> Record<'a> {
-    // None where the kind is none of these.
+    // None where the kind is none of these. (The kinds are letters of the file; here they become a width and whether a key stands before.)
     fn parse(line: &'a [u8]) -> Option<Record<'a>> {
         let (width, at) = match *line.first()? {
             b'a' | b'b' => (Width::W32, 2),
@@ -72,7 +72,7 @@ impl<'a> Record<'a> {
             Call::Decrypt => self.decrypted,
             Call::CheckValue => self.check,
         })?;
-        let mut space = [0u8; 64];
+        let mut space = [0u8; 64]; // for an output of any length, of which the front is lent
         let output = &mut space[..right.as_slice().len()];
         let answer = from_digits::call::<W>(self.schedule, call, input.as_slice(), output);
         Some(answer.is_ok() && output[..] == right.as_slice()[..])
@@ -92,6 +92,7 @@ impl<'a> Record<'a> {
         )
     }
 
+    // A width is a type from here on.
     fn agrees(&self) -> Option<bool> {
         match self.width {
             Width::W32 => self.agrees_over::<u32>(),
