@@ -95,6 +95,10 @@ class Fn:
     def where(self):
         return f"{self.path}:{self.line} {self.name}"
 
+    def body_line(self):
+        """The line in which the body begins."""
+        return self.line + self.text.count("\n", 0, len(self.text) - len(self.body))
+
     def wide(self):
         """The function but for its width: the twins of two widths are one."""
         return self.crate, WIDTHS.sub("wNN", self.path), self.name
@@ -209,7 +213,7 @@ def twins(fns, texts):
 def loops(fns, texts):
     found = defaultdict(list)
     for f in fns:
-        base = f.line + f.text.count("\n", 0, len(f.text) - len(f.body))
+        base = f.body_line()
 
         def place(i, what, f=f, base=base):
             return f"{f.path}:{base + f.body.count(chr(10), 0, i)} {f.name}: {what}"
@@ -359,7 +363,7 @@ def buffers(fns, texts):
 def switches(fns, texts):
     found = defaultdict(list)
     for f in fns:
-        base = f.line + f.text.count("\n", 0, len(f.text) - len(f.body))
+        base = f.body_line()
         for m in re.finditer(r"\b(if|match) ([^{]*)\{", f.body):
             cond = m.group(2)
             if "let " in cond or (m.group(1) == "if" and not re.search(r"\b(" + KINDS + r"|n % 4|r % 4)\b", cond)):

@@ -41,8 +41,8 @@ fn copy_blocks(from: &[u8], to: &mut [u8])
     }
 }
 
-// (What is asked of input and output stands at each function: in one struct with both the answer would be hidden from the caller.)
 // At most a batch, in a batch that is lent: the slots that are left hold zeros, and what becomes of these is dropped.
+// (What is asked of input and output stands at each function: in one struct with both the answer would be hidden from the caller.)
 fn crypt_in<C: Crypt, W: Packed>(
     schedule: &Schedule<W>,
     input: &[u8],

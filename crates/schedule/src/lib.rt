@@ -51,9 +51,8 @@ fn key_pass<W: Word>(rkey: [W; 8], constant: u8) -> [W; 8]
     add_round_constant(sub_bytes_nots(sub_bytes(rkey)), constant)
 }
 
-// (`rows` and `times` below are counts, as in round_keys and shift_rows.)
 // Round key r, from the one before it, whose last column is rotated by `rows`, and from the one m before it. A step without a constant adds 0.
-// (By number, since two keys are read, and one written, in one array.)
+// (By number, since two keys are read, and one written, in one array. `rows`, and `times` below, are counts, as in round_keys and shift_rows.)
 fn next_key<W: Word>(rkeys: &mut [W], r: usize, m: usize, constant: u8, rows: u32)
     requires { Follows m r (length rkeys.old) × (rows < 2) }
     ensures { Changes W.width (next_of W.width rows (key_pass constant) (map W.value rkeys.old) r m) (8 * r)
