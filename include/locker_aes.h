@@ -92,7 +92,7 @@ extern "C" {
 
 /* The library's version (CHANGELOG.md), and the number in its shared library's name: raised when a program that was
    compiled before can no longer run with it. */
-#define LOCKER_AES_VERSION "0.6.0"
+#define LOCKER_AES_VERSION "0.6.1"
 #define LOCKER_AES_ABI     1
 
 /* The answers. */

@@ -15,6 +15,7 @@ PLACES = {
     "word/blocks32": "the trait Packed for u32",
     "word/blocks64": "the trait Packed for u64",
     "host/lib": "the calls that C has, at each width",
+    "uses/schedule_calls": "one trait over these calls, and its impl at each width",
     "host_c/lib": "what is exported of them",
 }
 

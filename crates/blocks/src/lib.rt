@@ -62,7 +62,9 @@ fn crypt_in<C: Crypt, W: Packed>(
     copy_blocks(&out[0..input.len()], output);
 }
 
-// At most a batch, in one of its own. (Of 64 bytes, of which the front is lent: an array's length cannot be W::BATCH.)
+// At most a batch, in one of its own. (Of 64 bytes, of which the front is lent: an array's length cannot be W::BATCH. A call of its own, so that these lie on
+// the stack of a part only: docs/DECISIONS.md, 48.)
+#[inline(never)]
 fn crypt_part<C: Crypt, W: Packed>(schedule: &Schedule<W>, input: &[u8], output: &mut [u8])
     requires whole { length input.now % 16 ≡ 0 }
     requires most { length input.now ≤ 16 * slots W.width }

@@ -29,12 +29,14 @@ struct Record {
 impl Record {
     // None where the key is longer than any, or the value is not of three bytes.
     fn parse(line: &[u8]) -> Option<Record> {
-        let digits = hex_text::field(line, 1);
+        let mut fields = line.split(|byte| *byte == b' ');
+        let key = fields.next()?;
+        let digits = fields.next()?;
         if digits.len() != 6 {
             return None;
         }
         Some(Record {
-            key: Bytes::read(hex_text::field(line, 0))?,
+            key: Bytes::read(key)?,
             value: hex_text::array(digits),
         })
     }

@@ -40,7 +40,7 @@ fn digit(byte: u8) -> Option<u8>
 }
 
 // The number that digits spell, up to sixteen of them; what is no digit counts as 0. (`from_str_radix` takes a sign and upper case, and refuses all for one.)
-fn number(digits: &[u8]) -> u64 {
+pub fn number(digits: &[u8]) -> u64 {
     digits.iter().fold(
         0,
         |value, byte| (value << 4) | u64::from(digit(*byte).unwrap_or(0)),

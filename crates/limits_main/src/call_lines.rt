@@ -68,7 +68,7 @@ impl fmt::Display for Key {
 pub fn expand<W: Packed + HexWord>(rt: &impl Print, key: Key, words: usize) -> io::Result<()>
     requires { words ≤ 121 }
 {
-    let secret = bytes(key.byte);
+    let secret = [key.byte; 40];
     let mut space = filled::<W>();
     let answer = aes::expand(&secret[..key.len], &mut space[..words]);
     let left = Left::of(&space, &filled::<W>(), words);
@@ -155,7 +155,7 @@ pub fn check_value<W: Packed + HexWord>(
 
 // A call of the door, with the number of a direction as C hands it in: two of those tried name none.
 pub fn door(rt: &impl Print, direction: u32, key: Key, lent: Lent) -> io::Result<()> {
-    let secret = bytes(key.byte);
+    let secret = [key.byte; 40];
     let blocks = bytes(0x22);
     let mut space = bytes(0x5a);
     let number = host::locker_aes(

@@ -8,21 +8,28 @@ mod both_ways;
 use both_ways::both_ways;
 use std::io;
 
-fn one(rt: &impl Print, line: &[u8]) -> io::Result<()> {
-    rt.write_all(line)?;
-    println!(rt)?;
+// A line with what ends it, where anything does.
+fn one(rt: &impl Print, text: &[u8]) -> io::Result<()> {
+    rt.write_all(text)?;
+    let line = match text.strip_suffix(b"\n") {
+        Some(line) => line,
+        None => {
+            rt.write_all(b"\n")?;
+            text
+        }
+    };
     let digits = hex_text::field(line, 1);
     // The number of digits is all that the file says of the width.
     match digits.len() {
         64 => both_ways::<u32>(rt, digits),
         128 => both_ways::<u64>(rt, digits),
-        _ => println!(rt; "neither 64 digits nor 128"),
+        _ => rt.write_all(b"neither 64 digits nor 128\n"),
     }
 }
 
 fn all(rt: &impl Print, text: &[u8]) -> io::Result<()> {
     for line in text.split_inclusive(|byte| *byte == b'\n') {
-        one(rt, line.strip_suffix(b"\n").unwrap_or(line))?;
+        one(rt, line)?;
     }
     Ok(())
 }

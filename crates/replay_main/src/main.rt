@@ -25,16 +25,14 @@ enum Width {
     W64,
 }
 
-// The digits of a record's fields. Kinds A to D have no key.
+// A line, and the number of the field that has the schedule: before it kinds a to d have a key, and A to D none. A field is looked for where it is asked
+// for, so that a record that fails early is not read to its end.
 #[derive(Clone, Copy)]
 struct Record<'a> {
     width: Width,
-    key: Option<&'a [u8]>,
-    schedule: &'a [u8],
-    input: &'a [u8],
-    encrypted: &'a [u8],
-    decrypted: &'a [u8],
-    check: &'a [u8],
+    line: &'a [u8],
+    at: usize,
+    ghost few: { at ≤ 2 },
 }
 
 impl<'a> Record<'a> {
@@ -47,43 +45,36 @@ impl<'a> Record<'a> {
             b'C' | b'D' => (Width::W64, 1),
             _ => return None,
         };
-        Some(Record {
-            width,
-            key: (at == 2).then(|| hex_text::field(line, 1)),
-            schedule: hex_text::field(line, at),
-            input: hex_text::field(line, at + 1),
-            encrypted: hex_text::field(line, at + 2),
-            decrypted: hex_text::field(line, at + 3),
-            check: hex_text::field(line, at + 4),
-        })
+        Some(Record { width, line, at })
     }
 
     // Whether a key has the record's schedule; None where it is longer than any.
     fn expands<W: Packed + HexWord>(&self, key: &[u8]) -> Option<bool> {
         let key = Bytes::<32>::read(key)?;
-        Some(from_digits::expands::<W>(key.as_slice(), self.schedule))
+        let schedule = hex_text::field(self.line, self.at);
+        Some(from_digits::expands::<W>(key.as_slice(), schedule))
     }
 
     // Whether a call answers 0 and writes what the record has; None where that or the input is longer than a batch.
     fn gives<W: Packed + HexWord>(&self, call: Call) -> Option<bool> {
-        let input = Bytes::<64>::read(self.input)?;
-        let right = Bytes::<64>::read(match call {
-            Call::Encrypt => self.encrypted,
-            Call::Decrypt => self.decrypted,
-            Call::CheckValue => self.check,
-        })?;
+        let input = Bytes::<64>::read(hex_text::field(self.line, self.at + 1))?;
+        let from = match call {
+            Call::Encrypt => 2,
+            Call::Decrypt => 3,
+            Call::CheckValue => 4,
+        };
+        let right = Bytes::<64>::read(hex_text::field(self.line, self.at + from))?;
         let mut space = [0u8; 64]; // for an output of any length, of which the front is lent
         let output = &mut space[..right.as_slice().len()];
-        let answer = from_digits::call::<W>(self.schedule, call, input.as_slice(), output);
+        let schedule = hex_text::field(self.line, self.at);
+        let answer = from_digits::call::<W>(schedule, call, input.as_slice(), output);
         Some(answer.is_ok() && output[..] == right.as_slice()[..])
     }
 
     // Whether all that the record has is so.
     fn agrees_over<W: Packed + HexWord>(&self) -> Option<bool> {
-        if let Some(key) = self.key {
-            if !self.expands::<W>(key)? {
-                return Some(false);
-            }
+        if self.at == 2 && !self.expands::<W>(hex_text::field(self.line, 1))? {
+            return Some(false);
         }
         Some(
             self.gives::<W>(Call::Encrypt)?
