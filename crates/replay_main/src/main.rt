@@ -35,6 +35,12 @@ struct Record<'a> {
     ghost few: { at ≤ 2 },
 }
 
+// Whether these digits are those of the bytes. (A call of its own: a record that was refused does not come to it.)
+#[inline(never)]
+fn spells(digits: &[u8], bytes: &[u8]) -> bool {
+    Bytes::<64>::read(digits).is_some_and(|right| right.as_slice()[..] == bytes[..])
+}
+
 impl<'a> Record<'a> {
     // None where the kind is none of these. (The kinds are letters of the file; here they become a width and whether a key stands before.)
     fn parse(line: &'a [u8]) -> Option<Record<'a>> {
@@ -55,20 +61,21 @@ impl<'a> Record<'a> {
         Some(from_digits::expands::<W>(key.as_slice(), schedule))
     }
 
-    // Whether a call answers 0 and writes what the record has; None where that or the input is longer than a batch.
+    // Whether a call answers 0 and writes what the record has; None where that or the input is longer than a batch, or a field is not there.
     fn gives<W: Packed + HexWord>(&self, call: Call) -> Option<bool> {
-        let input = Bytes::<64>::read(hex_text::field(self.line, self.at + 1))?;
+        let mut fields = self.line.split(|byte| *byte == b' ').skip(self.at);
+        let schedule = fields.next()?;
+        let input = Bytes::<64>::read(fields.next()?)?;
         let from = match call {
-            Call::Encrypt => 2,
-            Call::Decrypt => 3,
-            Call::CheckValue => 4,
+            Call::Encrypt => 0,
+            Call::Decrypt => 1,
+            Call::CheckValue => 2,
         };
-        let right = Bytes::<64>::read(hex_text::field(self.line, self.at + from))?;
+        let right = fields.nth(from)?;
         let mut space = [0u8; 64]; // for an output of any length, of which the front is lent
-        let output = &mut space[..right.as_slice().len()];
-        let schedule = hex_text::field(self.line, self.at);
+        let output = space.get_mut(..right.len() / 2)?;
         let answer = from_digits::call::<W>(schedule, call, input.as_slice(), output);
-        Some(answer.is_ok() && output[..] == right.as_slice()[..])
+        Some(answer.is_ok() && spells(right, output))
     }
 
     // Whether all that the record has is so.
